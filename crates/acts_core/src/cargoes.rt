@@ -1,0 +1,72 @@
+//! Cargo, what a holder of a row is handed, and the answers of a queue's calls.
+ghost use Rattle.std.specs.Prelude.{◌≡◌, ◌≤◌, length};
+ghost use Rattle.acts_core.specs.Load.{Load};
+
+use crate::rows::RowState;
+
+/// What a queue keeps for a message and hands to the holder of its row.
+pub trait Cargo: Send + Drop {
+    /// What contracts see of it.
+    ghost load: { Self → Load };
+
+    /// The id of the message.
+    fn id(&self) -> u64
+        ensures { result ≡ (load self.now).id };
+
+    /// The number of bytes of the message's encoding.
+    fn size(&self) -> u64
+        ensures { result ≡ (load self.now).size };
+
+    /// The number of the message's deliveries.
+    fn count(&self) -> u32
+        ensures { result ≡ (load self.now).count };
+
+    /// A content is never longer than its message's encoding.
+    ghost content_fits: { (cargo : Self) → length (load cargo).content ≤ (load cargo).size };
+}
+
+/// The answer to a put.
+#[derive(Debug, Drop)]
+pub enum Placed<C> {
+    /// It stands in this row. On a last-value queue the older entry that it displaced, if any, is now
+    /// held by the caller.
+    At {
+        row: u64,
+        displaced: Option<(u64, C)>,
+    },
+    /// The caller has no rows left to draw. The reservation stays.
+    Spent(C),
+}
+
+/// The answer to a call for the next entry.
+#[derive(Debug, Drop)]
+pub enum Next<C> {
+    Got { row: u64, cargo: C },
+    Empty,
+}
+
+/// The answer to a lock of a row that the caller had unlocked.
+#[derive(Debug, Drop)]
+pub enum Locking<C> {
+    Locked(C),
+    /// The row is no longer the caller's. It was seen in this state.
+    Stolen(RowState),
+}
+
+/// The answer to a release.
+#[derive(Debug, Drop)]
+pub enum Releasing<C> {
+    Released,
+    /// On a last-value queue a later entry of the same key has come, and the row stays held.
+    Outdated(C),
+}
+
+/// The answer to a steal.
+#[derive(Debug, Drop)]
+pub enum Stealing<C> {
+    Stolen(C),
+    /// The row was not unlocked by anyone. It was seen in this state.
+    NotStealable(RowState),
+    /// The row was unlocked by someone, and had changed to this state when it was to be taken.
+    Moved(RowState),
+}

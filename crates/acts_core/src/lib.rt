@@ -1,0 +1,15 @@
+//! The vocabulary of a queue: rows and their states, acts and deeds, the state of a queue with its
+//! table of acts, and the laws that every later crate rests on.
+#![tactic(auto)]
+
+pub mod byte_lists;
+pub mod cargoes;
+pub mod deeds;
+pub mod queues;
+pub mod rows;
+
+pub use byte_lists::{Buffer, Bytes, NoMemory, Origin};
+pub use cargoes::{Cargo, Locking, Next, Placed, Releasing, Stealing};
+pub use deeds::{Act, Deed};
+pub use queues::{Bell, Depth, Limits, Policy, Queue, Reservation};
+pub use rows::{Row, RowState, Slip};
