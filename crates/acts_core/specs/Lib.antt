@@ -1,2 +1,9 @@
 pub mod Room
 pub mod Load
+pub mod Keyed
+pub mod State
+pub mod Table
+pub mod History
+pub mod Order
+pub mod Sound
+pub mod Laws

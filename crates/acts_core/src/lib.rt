@@ -6,6 +6,7 @@ pub mod byte_lists;
 pub mod cargoes;
 pub mod deeds;
 pub mod queues;
+pub mod laws;
 pub mod rows;
 
 pub use byte_lists::{Buffer, Bytes, NoMemory, Origin};
