@@ -7,3 +7,4 @@ pub mod History
 pub mod Order
 pub mod Sound
 pub mod Laws
+pub mod Applied

@@ -1,5 +1,5 @@
 -- what can be read off the state of a queue
-use Rattle.std.specs.Prelude.{◌≡◌, ℕ, ◌+◌, ◌*◌, ◌≤◌, Bool, true, false, ◌&&◌, ◌==◌, if◌then◌else◌, Option, Some, None, List, filter, find, sum_by, unwrap_or}
+use Rattle.std.specs.Prelude.{◌≡◌, ℕ, ◌+◌, ◌*◌, ◌≤◌, Bool, true, false, ◌&&◌, ◌==◌, if◌then◌else◌, Option, Some, None, List, [], filter, find, sum_by, unwrap_or}
 use Rattle.std.specs.Option.{option_map_or}
 use Rattle.std.specs.List.{position_or_len}
 use Rattle.acts_core.specs.declared.rows.Row.{Row}
@@ -9,6 +9,10 @@ use Rattle.acts_core.specs.declared.queues.Bell.{Bell}
 use Rattle.acts_core.specs.declared.queues.Depth.{Depth}
 use Rattle.acts_core.specs.declared.queues.Queue.{Queue}
 use Rattle.acts_core.specs.declared.queues.Reservation.{Reservation}
+
+-- a queue with so many lists and consumers, and nothing in it
+abbrev pub empty : ℕ → ℕ → Queue
+empty lists consumers = record { lists = lists; consumers = consumers; rows = []; reserved = []; bells = [] }
 
 -- Rows
 

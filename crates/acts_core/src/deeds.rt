@@ -1,29 +1,50 @@
 //! Acts, and deeds: acts with their callers. A queue's history is a list of deeds.
 use crate::byte_lists::{Bytes, Origin};
 use crate::rows::Slip;
+use thiserror::Error;
 
 /// One change of a queue. docs/QUEUE-MODEL.md, "The table of acts", says when each has a step and what
 /// it does.
 #[derive(Debug, Drop)]
 pub enum Act {
     /// Acquires an available row.
-    Acq { row: u64 },
+    Acq {
+        row: u64,
+    },
     /// Locks a row that the caller had unlocked.
-    Lock { row: u64 },
+    Lock {
+        row: u64,
+    },
     /// Leaves a held row, with the number of its deliveries.
-    Unlock { row: u64, count: u32 },
+    Unlock {
+        row: u64,
+        count: u32,
+    },
     /// Takes a row that anyone had unlocked.
-    Steal { row: u64 },
+    Steal {
+        row: u64,
+    },
     /// Makes a held row available again, with the number of its deliveries.
-    Rel { row: u64, count: u32 },
+    Rel {
+        row: u64,
+        count: u32,
+    },
     /// Takes a held row out of the queue. Its entry and bytes become reserved.
-    Deq { row: u64 },
+    Deq {
+        row: u64,
+    },
     /// Deletes a row that was dequeued.
-    Del { row: u64 },
+    Del {
+        row: u64,
+    },
     /// Reserves one entry of this size.
-    Reserve { size: u64 },
+    Reserve {
+        size: u64,
+    },
     /// Gives one reserved entry of this size back.
-    GiveBack { size: u64 },
+    GiveBack {
+        size: u64,
+    },
     /// Appends a new row to its list, in place of a reserved entry of its size.
     Enq {
         row: u64,
@@ -33,9 +54,15 @@ pub enum Act {
         count: u32,
     },
     /// Rings the bell of a consumer for a row.
-    Bell { row: u64, consumer: u32 },
+    Bell {
+        row: u64,
+        consumer: u32,
+    },
     /// Takes the bell of a consumer at a list.
-    Take { consumer: u32, list: u32 },
+    Take {
+        consumer: u32,
+        list: u32,
+    },
 }
 
 /// An act and the caller that does it.
@@ -43,4 +70,14 @@ pub enum Act {
 pub struct Deed {
     pub caller: u64,
     pub act: Act,
+}
+
+/// Why a deed was not applied. It hands the deed back.
+#[derive(Debug, Drop, Error)]
+pub enum Unapplied {
+    /// The table of acts has no step for this deed in this state.
+    #[error("the deed has no step in this state")]
+    Illegal(Deed),
+    #[error("out of memory")]
+    NoMemory(Deed),
 }

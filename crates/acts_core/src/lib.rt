@@ -5,12 +5,17 @@
 pub mod byte_lists;
 pub mod cargoes;
 pub mod deeds;
-pub mod queues;
+mod field_lists;
 pub mod laws;
+pub mod limits;
+pub mod queues;
 pub mod rows;
+pub mod state;
 
 pub use byte_lists::{Buffer, Bytes, NoMemory, Origin};
 pub use cargoes::{Cargo, Locking, Next, Placed, Releasing, Stealing};
-pub use deeds::{Act, Deed};
+pub use deeds::{Act, Deed, Unapplied};
+pub use limits::{MOST_BYTES, MOST_ENTRIES};
 pub use queues::{Bell, Depth, Limits, Policy, Queue, Reservation};
 pub use rows::{Row, RowState, Slip};
+pub use state::QueueState;

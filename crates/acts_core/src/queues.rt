@@ -1,7 +1,6 @@
 //! The state of a queue: its rows, what its callers have reserved, and its bells.
-use std::collections::LinkedList;
-
 use crate::rows::Row;
+use std::collections::LinkedList;
 
 /// How full a queue is, with what is reserved and not enqueued yet.
 #[derive(Clone, Copy, Debug, PartialEq, Eq)]

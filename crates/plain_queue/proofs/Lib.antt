@@ -1,0 +1,4 @@
+pub mod Numbered
+pub mod Doings
+pub mod Stub
+pub mod Answered

@@ -1,0 +1,20 @@
+use Rattle.std.proofs.Common.{refl, sym, ◌∙◌}
+use Rattle.acts_core.proofs.Positions.{find_none}
+use Rattle.plain_queue.proofs.Answered.{released, row_held}
+use Rattle.plain_queue.proofs.PlainQueue.release.Goals as goal
+
+pub returns-in_default : goal.returns-in_default
+returns-in_default c =
+    let at = rw c.deref.ensures.value at c.held_row.ensures in
+    (rw (← c.self.view_is) (find_none (row_held c.args.caller c.args.id) c.self.inside.rows.items (sym at ∙ c.in_default.is)), refl)
+
+pub invariant_of-self : goal.invariant_of-self
+invariant_of-self c =
+    let at = rw c.deref.ensures.value at c.held_row.ensures in
+    (released _ _ _ c.in-Some.index c.args.caller _ c.self.invariant c.index_mut-row.ensures.value c.args.id (sym at ∙ c.in-Some.is)).0
+
+pub returns : goal.returns
+returns c =
+    let at = rw c.deref.ensures.value at c.held_row.ensures in
+    let t = released _ _ _ c.in-Some.index c.args.caller _ c.self.invariant c.index_mut-row.ensures.value c.args.id (sym at ∙ c.in-Some.is) in
+    rw (← c.self.view_is) (c.index_mut-row.result.now, t.1, t.2)
