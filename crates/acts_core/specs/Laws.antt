@@ -15,11 +15,68 @@ use Rattle.acts_core.specs.Sound.{Sound, IsOpening}
 
 -- Histories
 
+-- the state after two histories in a row
 abbrev pub AfterAppend : Type 0
 AfterAppend = (q : Queue) (ds es : List Deed) → after q (ds ++ es) ≡ after (after q ds) es
 
+-- two histories in a row are legal if each is legal where it stands
+abbrev pub LegalAppend : Type 0
+LegalAppend = (q : Queue) (ds es : List Deed) → Legal q ds → Legal (after q ds) es → Legal q (ds ++ es)
+
+-- the front of a legal history is legal
+abbrev pub LegalFront : Type 0
+LegalFront = (q : Queue) (ds es : List Deed) → Legal q (ds ++ es) → Legal q ds
+
+-- the rest of a legal history is legal where it stands
+abbrev pub LegalRest : Type 0
+LegalRest = (q : Queue) (ds es : List Deed) → Legal q (ds ++ es) → Legal (after q ds) es
+
+-- a caller's deeds of two histories in a row
 abbrev pub OwnAppend : Type 0
 OwnAppend = (h : ℕ) (ds es : List Deed) → own h (ds ++ es) ≡ own h ds ++ own h es
+
+-- a deed is its caller's own
+abbrev pub OwnMine : Type 0
+OwnMine = (d : Deed) → own d.caller (d ∷ []) ≡ d ∷ []
+
+-- and no other's
+abbrev pub OwnOther : Type 0
+OwnOther = (h : ℕ) (d : Deed) → d.caller ≢ h → own h (d ∷ []) ≡ []
+
+-- Prefixes
+
+abbrev pub PrefixSelf : Type 0
+PrefixSelf = (xs : List Deed) → IsPrefix xs xs
+
+abbrev pub PrefixMore : Type 0
+PrefixMore = (xs ys : List Deed) → IsPrefix xs (xs ++ ys)
+
+abbrev pub PrefixTrans : Type 0
+PrefixTrans = (xs ys zs : List Deed) → IsPrefix xs ys → IsPrefix ys zs → IsPrefix xs zs
+
+-- of two prefixes of one history the one that is not longer is a prefix of the other
+abbrev pub PrefixShorter : Type 0
+PrefixShorter = (xs ys zs : List Deed) → IsPrefix xs zs → IsPrefix ys zs → length xs ≤ length ys → IsPrefix xs ys
+
+-- a prefix of equal length is the whole history
+abbrev pub PrefixWhole : Type 0
+PrefixWhole = (xs ys : List Deed) → IsPrefix xs ys → length xs ≡ length ys → xs ≡ ys
+
+-- a prefix is not longer
+abbrev pub PrefixLength : Type 0
+PrefixLength = (xs ys : List Deed) → IsPrefix xs ys → length xs ≤ length ys
+
+-- a prefix of a legal history is legal
+abbrev pub LegalPrefix : Type 0
+LegalPrefix = (q : Queue) (ds es : List Deed) → IsPrefix ds es → Legal q es → Legal q ds
+
+-- a history between two that have the same deeds of a caller has the same deeds of it
+abbrev pub OwnBetween : Type 0
+OwnBetween = (h : ℕ) (ds es fs : List Deed) → IsPrefix ds es → IsPrefix es fs → own h fs ≡ own h ds → own h fs ≡ own h es
+
+-- what has each caller's deeds of a history is the whole of it
+abbrev pub SeenAll : Type 0
+SeenAll = (seen all : List Deed) → IsPrefix seen all → ((k : ℕ) → own k all ≡ own k seen) → seen ≡ all
 
 -- Sound states
 
