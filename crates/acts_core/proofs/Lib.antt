@@ -1,2 +1,4 @@
+pub mod KeyedLemmas
+pub mod RowFacts
 pub mod Histories
 pub mod Prefixes

@@ -1,14 +1,17 @@
 -- the statements of the laws, each proved as the contract of a function in src/laws.rt
-use Rattle.std.specs.Prelude.{◌≡◌, ◌≢◌, ℕ, ◌+◌, ◌*◌, ◌≤◌, Some, None, ◌⊎◌, List, [], ◌∷◌, ◌++◌, length}
+use Rattle.std.specs.Prelude.{◌≡◌, ◌≢◌, ℕ, ◌+◌, ◌*◌, ◌≤◌, Option, Some, None, ◌⊎◌, List, [], ◌∷◌, ◌++◌, length, find, sum_by}
+use Rattle.std.specs.Option.{option_map_or}
 use mathlib.Core.List.{IsPrefix}
 use Rattle.acts_core.specs.declared.deeds.Act.{Act}
 use Rattle.acts_core.specs.declared.deeds.Act.TheVariants.{Acq}
 use Rattle.acts_core.specs.declared.deeds.Deed.{Deed}
 use Rattle.acts_core.specs.declared.queues.Queue.{Queue}
+use Rattle.acts_core.specs.declared.queues.Reservation.{Reservation}
 use Rattle.acts_core.specs.declared.rows.Row.{Row}
 use Rattle.acts_core.specs.declared.rows.RowState.TheVariants.{Locked}
-use Rattle.acts_core.specs.State.{row_at, IsIn, reserved_by, entries, bytes}
-use Rattle.acts_core.specs.Table.{Can, acted, most_bytes}
+use Rattle.acts_core.specs.Keyed.{alter}
+use Rattle.acts_core.specs.State.{is_row, row_at, IsIn, is_holder, reserved_by, entries, bytes}
+use Rattle.acts_core.specs.Table.{Can, acted, changed, most_bytes}
 use Rattle.acts_core.specs.History.{after, Legal, own}
 use Rattle.acts_core.specs.Order.{Order, Precedes}
 use Rattle.acts_core.specs.Sound.{Sound, IsOpening}
@@ -77,6 +80,56 @@ OwnBetween = (h : ℕ) (ds es fs : List Deed) → IsPrefix ds es → IsPrefix es
 -- what has each caller's deeds of a history is the whole of it
 abbrev pub SeenAll : Type 0
 SeenAll = (seen all : List Deed) → IsPrefix seen all → ((k : ℕ) → own k all ≡ own k seen) → seen ≡ all
+
+-- Rows and reservations by their keys
+
+-- what a change makes of a row stands in its place
+abbrev pub RowAlter : Type 0
+RowAlter = (r : ℕ) (f : Option Row → Option Row) (xs : List Row) (y : Row) → f (find (is_row r) xs) ≡ Some y → y.number ≡ r → find (is_row r) (alter (is_row r) f xs) ≡ Some y
+
+-- a change of one row leaves another
+abbrev pub RowAlterOther : Type 0
+RowAlterOther = (r s : ℕ) (f : Option Row → Option Row) (xs : List Row) → r ≢ s → ((y : Row) → f (find (is_row r) xs) ≡ Some y → y.number ≡ r) → find (is_row s) (alter (is_row r) f xs) ≡ find (is_row s) xs
+
+-- what a change of one row does to a sum over all rows
+abbrev pub RowSum : Type 0
+RowSum = (w : Row → ℕ) (r : ℕ) (f : Option Row → Option Row) (xs : List Row) → sum_by w (alter (is_row r) f xs) + option_map_or w (find (is_row r) xs) 0 ≡ sum_by w xs + option_map_or w (f (find (is_row r) xs)) 0
+
+-- a row stays where others come behind it
+abbrev pub RowAppend : Type 0
+RowAppend = (r : ℕ) (xs ys : List Row) (x : Row) → find (is_row r) xs ≡ Some x → find (is_row r) (xs ++ ys) ≡ Some x
+
+-- a new row at the end is found by its number
+abbrev pub RowPush : Type 0
+RowPush = (r : ℕ) (xs : List Row) (y : Row) → find (is_row r) xs ≡ None → y.number ≡ r → find (is_row r) (xs ++ y ∷ []) ≡ Some y
+
+-- and by no other
+abbrev pub RowPushOther : Type 0
+RowPushOther = (r : ℕ) (xs : List Row) (y : Row) → y.number ≢ r → find (is_row r) (xs ++ y ∷ []) ≡ find (is_row r) xs
+
+-- a row that is found by a number has that number
+abbrev pub RowNumber : Type 0
+RowNumber = (q : Queue) (r : ℕ) (x : Row) → row_at q r ≡ Some x → x.number ≡ r
+
+-- the changed row
+abbrev pub RowHere : Type 0
+RowHere = (q : Queue) (r : ℕ) (f : Row → Row) (x : Row) → row_at q r ≡ Some x → (f x).number ≡ r → row_at (changed q r f) r ≡ Some (f x)
+
+-- the others
+abbrev pub RowElsewhere : Type 0
+RowElsewhere = (q : Queue) (r s : ℕ) (f : Row → Row) → r ≢ s → ((x : Row) → (f x).number ≡ x.number) → row_at (changed q r f) s ≡ row_at q s
+
+-- what a change makes of a reservation stands in its place
+abbrev pub ReservedAlter : Type 0
+ReservedAlter = (h : ℕ) (f : Option Reservation → Option Reservation) (xs : List Reservation) (v : Reservation) → f (find (is_holder h) xs) ≡ Some v → v.holder ≡ h → find (is_holder h) (alter (is_holder h) f xs) ≡ Some v
+
+-- a change of one caller's reservation leaves another's
+abbrev pub ReservedAlterOther : Type 0
+ReservedAlterOther = (h k : ℕ) (f : Option Reservation → Option Reservation) (xs : List Reservation) → h ≢ k → ((v : Reservation) → f (find (is_holder h) xs) ≡ Some v → v.holder ≡ h) → find (is_holder k) (alter (is_holder h) f xs) ≡ find (is_holder k) xs
+
+-- what a change of one reservation does to a sum over all
+abbrev pub ReservedSum : Type 0
+ReservedSum = (w : Reservation → ℕ) (h : ℕ) (f : Option Reservation → Option Reservation) (xs : List Reservation) → sum_by w (alter (is_holder h) f xs) + option_map_or w (find (is_holder h) xs) 0 ≡ sum_by w xs + option_map_or w (f (find (is_holder h) xs)) 0
 
 -- Sound states
 

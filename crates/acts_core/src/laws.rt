@@ -1,5 +1,5 @@
 //! Laws of histories, on which every crate above rests. Each is the contract of a function with no body.
-ghost use Rattle.acts_core.specs.Laws.{AfterAppend, LegalAppend, LegalFront, LegalRest, OwnAppend, OwnMine, OwnOther, PrefixSelf, PrefixMore, PrefixTrans, PrefixShorter, PrefixWhole, PrefixLength, LegalPrefix, OwnBetween, SeenAll, PrecedesTotal, SoundOpening, SoundStep};
+ghost use Rattle.acts_core.specs.Laws.{AfterAppend, LegalAppend, LegalFront, LegalRest, OwnAppend, OwnMine, OwnOther, PrefixSelf, PrefixMore, PrefixTrans, PrefixShorter, PrefixWhole, PrefixLength, LegalPrefix, OwnBetween, SeenAll, RowAlter, RowAlterOther, RowSum, RowAppend, RowPush, RowPushOther, RowNumber, RowHere, RowElsewhere, ReservedAlter, ReservedAlterOther, ReservedSum, PrecedesTotal, SoundOpening, SoundStep};
 
 /// Histories one after the other.
 pub fn histories()
@@ -24,6 +24,23 @@ pub fn prefixes()
     ensures legal { LegalPrefix }
     ensures own_between { OwnBetween }
     ensures seen_all { SeenAll }
+{
+}
+
+/// Rows and reservations are found by their keys.
+pub fn keyed()
+    ensures row_alter { RowAlter }
+    ensures row_alter_other { RowAlterOther }
+    ensures row_sum { RowSum }
+    ensures row_append { RowAppend }
+    ensures row_push { RowPush }
+    ensures row_push_other { RowPushOther }
+    ensures row_number { RowNumber }
+    ensures row_here { RowHere }
+    ensures row_elsewhere { RowElsewhere }
+    ensures reserved_alter { ReservedAlter }
+    ensures reserved_alter_other { ReservedAlterOther }
+    ensures reserved_sum { ReservedSum }
 {
 }
 
