@@ -1,4 +1,5 @@
 pub mod KeyedLemmas
 pub mod RowFacts
+pub mod Depths
 pub mod Histories
 pub mod Prefixes

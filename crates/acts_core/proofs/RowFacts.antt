@@ -1,13 +1,13 @@
 -- rows, reservations and bells by their keys
-use Rattle.std.proofs.Common.{◌≡◌, ◌≢◌, ℕ, ◌+◌, Bool, true, false, Option, Some, None, List, [], ◌∷◌, ◌++◌, find, sum_by, option_map, refl, sym, ap, ◌∙◌, eq-eqb, ne_eqb, eqb-true, arith}
-use Rattle.std.proofs.lemmas.Bool.{eqb-false}
+use Rattle.std.proofs.Common.{◌≡◌, ◌≢◌, ℕ, ◌+◌, ◌-◌, ◌==◌, Bool, cond, true, false, Option, Some, None, List, [], ◌∷◌, ◌++◌, find, sum_by, option_map, refl, sym, ap, ◌∙◌, ⊎_elim, eq-eqb, ne_eqb, eqb-true, arith}
+use Rattle.std.proofs.lemmas.Bool.{eqb-false, cases_eq, cond-true, cond-false}
 use Rattle.std.specs.Option.{option_map_or}
 use Rattle.acts_core.specs.declared.queues.Queue.{Queue}
 use Rattle.acts_core.specs.declared.queues.Reservation.{Reservation}
 use Rattle.acts_core.specs.declared.rows.Row.{Row}
 use Rattle.acts_core.specs.Keyed.{alter}
 use Rattle.acts_core.specs.State.{is_row, row_at, is_holder}
-use Rattle.acts_core.specs.Table.{changed}
+use Rattle.acts_core.specs.Table.{changed, more, less}
 use Rattle.acts_core.proofs.KeyedLemmas.{find_passes, find-append, find-push, find-push_other, find-alter, find-alter_other, sum-alter}
 
 -- Rows
@@ -61,3 +61,32 @@ other_holder h k v other holder = ne_eqb v.holder k (λ e. other (sym holder ∙
 pub reserved_alter_other : (h k : ℕ) (f : Option Reservation → Option Reservation) (xs : List Reservation) → h ≢ k → ((v : Reservation) → f (find (is_holder h) xs) ≡ Some v → v.holder ≡ h) → find (is_holder k) (alter (is_holder h) f xs) ≡ find (is_holder k) xs
 reserved_alter_other h k f xs other holder =
     find-alter_other (is_holder h) (is_holder k) f xs (λ v e. other_holder h k v other (eqb-true v.holder h e)) (λ v e. other_holder h k v other (holder v e))
+
+-- a reservation that is found by a caller is that caller's
+pub reserved_holder : (q : Queue) (h : ℕ) (v : Reservation) → find (is_holder h) q.reserved ≡ Some v → v.holder ≡ h
+reserved_holder q h v e = eqb-true v.holder h (find_passes (is_holder h) q.reserved v e)
+
+-- with one entry more it still is
+pub more_holder : (h size : ℕ) (o : Option Reservation) (v : Reservation) → ((u : Reservation) → o ≡ Some u → u.holder ≡ h) → more h size o ≡ Some v → v.holder ≡ h
+more_holder h size None v holder e = let same : record { holder = h; entries = 1; bytes = size } ≡ v = cc in ap (λ (u : Reservation). u.holder) (sym same)
+more_holder h size (Some u) v holder e =
+    let same : record u { entries = u.entries + 1; bytes = u.bytes + size } ≡ v = cc in
+    ap (λ (w : Reservation). w.holder) (sym same) ∙ holder u refl
+
+-- of the last entry nothing stays
+pub less_last : (size : ℕ) (v : Reservation) → v.entries ≡ 1 → less size (Some v) ≡ None
+less_last size v last = cond-true (v.entries == 1) None (Some (record v { entries = v.entries - 1; bytes = v.bytes - size })) (eq-eqb v.entries 1 last)
+
+pub less_more : (size : ℕ) (v : Reservation) → v.entries ≢ 1 → less size (Some v) ≡ Some (record v { entries = v.entries - 1; bytes = v.bytes - size })
+less_more size v many = cond-false (v.entries == 1) None (Some (record v { entries = v.entries - 1; bytes = v.bytes - size })) (ne_eqb v.entries 1 many)
+
+-- what is left of a reservation, if anything is
+pub less_some : (size : ℕ) (o : Option Reservation) (v : Reservation) → less size o ≡ Some v → (u : Reservation) × (o ≡ Some u) × (u.entries ≢ 1) × (v ≡ record u { entries = u.entries - 1; bytes = u.bytes - size })
+less_some size None v e = absurd (cc)
+less_some size (Some u) v e = ⊎_elim
+    (λ (last : u.entries ≡ 1). let bad : None ≡ Some v = sym (less_last size u last) ∙ e in absurd (cc))
+    (λ (many : u.entries ≢ 1).
+        let both : Some (record u { entries = u.entries - 1; bytes = u.bytes - size }) ≡ Some v = sym (less_more size u many) ∙ e in
+        let same : v ≡ record u { entries = u.entries - 1; bytes = u.bytes - size } = cc in
+        (u, refl, many, same))
+    (cases_eq u.entries 1)

@@ -3,7 +3,7 @@ use Rattle.std.specs.Prelude.{◌≡◌, ◌≢◌, ℕ, ◌+◌, ◌*◌, ◌�
 use Rattle.std.specs.Option.{option_map_or}
 use mathlib.Core.List.{IsPrefix}
 use Rattle.acts_core.specs.declared.deeds.Act.{Act}
-use Rattle.acts_core.specs.declared.deeds.Act.TheVariants.{Acq}
+use Rattle.acts_core.specs.declared.deeds.Act.TheVariants.{Acq, Lock, Unlock, Steal, Rel, Deq, Del, Reserve, GiveBack, Enq, Bell, Take}
 use Rattle.acts_core.specs.declared.deeds.Deed.{Deed}
 use Rattle.acts_core.specs.declared.queues.Queue.{Queue}
 use Rattle.acts_core.specs.declared.queues.Reservation.{Reservation}
@@ -130,6 +130,28 @@ ReservedAlterOther = (h k : ℕ) (f : Option Reservation → Option Reservation)
 -- what a change of one reservation does to a sum over all
 abbrev pub ReservedSum : Type 0
 ReservedSum = (w : Reservation → ℕ) (h : ℕ) (f : Option Reservation → Option Reservation) (xs : List Reservation) → sum_by w (alter (is_holder h) f xs) + option_map_or w (find (is_holder h) xs) 0 ≡ sum_by w xs + option_map_or w (f (find (is_holder h) xs)) 0
+
+-- Depth
+
+abbrev pub DepthReserve : Type 0
+DepthReserve = (q : Queue) (h size : ℕ) → (entries (acted q h (Reserve size)) ≡ entries q + 1) × (bytes (acted q h (Reserve size)) ≡ bytes q + size)
+
+abbrev pub DepthGiveBack : Type 0
+DepthGiveBack = (q : Queue) (h size : ℕ) → Can q h (GiveBack size) → (entries (acted q h (GiveBack size)) + 1 ≡ entries q) × (bytes (acted q h (GiveBack size)) + size ≡ bytes q)
+
+-- the acts that only move entries, or none
+abbrev pub KeepsDepth : Act → Type 0
+KeepsDepth (Reserve size) = ⊥
+KeepsDepth (GiveBack size) = ⊥
+KeepsDepth a = Unit {0}
+
+-- all acts but these two leave the depth as it is
+abbrev pub DepthKept : Type 0
+DepthKept = (q : Queue) (h : ℕ) (a : Act) → Can q h a → KeepsDepth a → (entries (acted q h a) ≡ entries q) × (bytes (acted q h a) ≡ bytes q)
+
+-- for each entry at most the bytes of the largest message
+abbrev pub DepthLow : Type 0
+DepthLow = (q : Queue) → Sound q → bytes q ≤ most_bytes * entries q
 
 -- Sound states
 

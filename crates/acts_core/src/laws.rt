@@ -1,5 +1,5 @@
 //! Laws of histories, on which every crate above rests. Each is the contract of a function with no body.
-ghost use Rattle.acts_core.specs.Laws.{AfterAppend, LegalAppend, LegalFront, LegalRest, OwnAppend, OwnMine, OwnOther, PrefixSelf, PrefixMore, PrefixTrans, PrefixShorter, PrefixWhole, PrefixLength, LegalPrefix, OwnBetween, SeenAll, RowAlter, RowAlterOther, RowSum, RowAppend, RowPush, RowPushOther, RowNumber, RowHere, RowElsewhere, ReservedAlter, ReservedAlterOther, ReservedSum, PrecedesTotal, SoundOpening, SoundStep};
+ghost use Rattle.acts_core.specs.Laws.{AfterAppend, LegalAppend, LegalFront, LegalRest, OwnAppend, OwnMine, OwnOther, PrefixSelf, PrefixMore, PrefixTrans, PrefixShorter, PrefixWhole, PrefixLength, LegalPrefix, OwnBetween, SeenAll, RowAlter, RowAlterOther, RowSum, RowAppend, RowPush, RowPushOther, RowNumber, RowHere, RowElsewhere, ReservedAlter, ReservedAlterOther, ReservedSum, DepthReserve, DepthGiveBack, DepthKept, DepthLow, PrecedesTotal, SoundOpening, SoundStep};
 
 /// Histories one after the other.
 pub fn histories()
@@ -41,6 +41,15 @@ pub fn keyed()
     ensures reserved_alter { ReservedAlter }
     ensures reserved_alter_other { ReservedAlterOther }
     ensures reserved_sum { ReservedSum }
+{
+}
+
+/// What each act does to the depth.
+pub fn depths()
+    ensures reserve { DepthReserve }
+    ensures give_back { DepthGiveBack }
+    ensures kept { DepthKept }
+    ensures low { DepthLow }
 {
 }
 
