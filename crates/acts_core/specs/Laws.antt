@@ -161,6 +161,9 @@ SoundOpening = (q : Queue) → IsOpening q → Sound q
 abbrev pub SoundStep : Type 0
 SoundStep = (q : Queue) (h : ℕ) (a : Act) → Can q h a → Sound q → Sound (acted q h a)
 
+abbrev pub SoundAfter : Type 0
+SoundAfter = (q : Queue) (ds : List Deed) → Sound q → Legal q ds → Sound (after q ds)
+
 -- Queue order
 
 abbrev pub PrecedesTotal : Type 0

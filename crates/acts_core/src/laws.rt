@@ -1,5 +1,5 @@
 //! Laws of histories, on which every crate above rests. Each is the contract of a function with no body.
-ghost use Rattle.acts_core.specs.Laws.{AfterAppend, LegalAppend, LegalFront, LegalRest, OwnAppend, OwnMine, OwnOther, PrefixSelf, PrefixMore, PrefixTrans, PrefixShorter, PrefixWhole, PrefixLength, LegalPrefix, OwnBetween, SeenAll, RowAlter, RowAlterOther, RowSum, RowAppend, RowPush, RowPushOther, RowNumber, RowHere, RowElsewhere, ReservedAlter, ReservedAlterOther, ReservedSum, DepthReserve, DepthGiveBack, DepthKept, DepthLow, PrecedesTotal, SoundOpening, SoundStep};
+ghost use Rattle.acts_core.specs.Laws.{AfterAppend, LegalAppend, LegalFront, LegalRest, OwnAppend, OwnMine, OwnOther, PrefixSelf, PrefixMore, PrefixTrans, PrefixShorter, PrefixWhole, PrefixLength, LegalPrefix, OwnBetween, SeenAll, RowAlter, RowAlterOther, RowSum, RowAppend, RowPush, RowPushOther, RowNumber, RowHere, RowElsewhere, ReservedAlter, ReservedAlterOther, ReservedSum, DepthReserve, DepthGiveBack, DepthKept, DepthLow, PrecedesTotal, SoundOpening, SoundStep, SoundAfter};
 
 /// Histories one after the other.
 pub fn histories()
@@ -57,6 +57,7 @@ pub fn depths()
 pub fn soundness()
     ensures opening { SoundOpening }
     ensures step { SoundStep }
+    ensures after { SoundAfter }
 {
 }
 
