@@ -8,9 +8,9 @@ use Rattle.acts_core.specs.declared.deeds.Deed.{Deed}
 use Rattle.acts_core.specs.declared.queues.Queue.{Queue}
 use Rattle.acts_core.specs.declared.queues.Reservation.{Reservation}
 use Rattle.acts_core.specs.declared.rows.Row.{Row}
-use Rattle.acts_core.specs.declared.rows.RowState.TheVariants.{Locked}
+use Rattle.acts_core.specs.declared.rows.RowState.TheVariants.{Locked, Dequeued, Deleted}
 use Rattle.acts_core.specs.Keyed.{alter}
-use Rattle.acts_core.specs.State.{is_row, row_at, IsIn, is_holder, reserved_by, entries, bytes}
+use Rattle.acts_core.specs.State.{is_row, row_at, IsIn, list_at, place_at, is_holder, reserved_by, entries, bytes}
 use Rattle.acts_core.specs.Table.{Can, acted, changed, most_bytes}
 use Rattle.acts_core.specs.History.{after, Legal, own}
 use Rattle.acts_core.specs.Order.{Order, Precedes}
@@ -163,6 +163,75 @@ SoundStep = (q : Queue) (h : ℕ) (a : Act) → Can q h a → Sound q → Sound 
 
 abbrev pub SoundAfter : Type 0
 SoundAfter = (q : Queue) (ds : List Deed) → Sound q → Legal q ds → Sound (after q ds)
+
+-- What stays
+
+-- two rows of one number with the same slip, content and origin
+pub record SameGoods (x y : Row) : Type 0 where
+  pub number : y.number ≡ x.number
+  pub slip : y.slip ≡ x.slip
+  pub content : y.content ≡ x.content
+  pub origin : y.origin ≡ x.origin
+
+-- a row keeps its number, slip, content and origin
+abbrev pub RowStep : Type 0
+RowStep = (q : Queue) (h : ℕ) (a : Act) (r : ℕ) (x : Row) → row_at q r ≡ Some x → (y : Row) × (row_at (acted q h a) r ≡ Some y) × SameGoods x y
+
+abbrev pub RowStays : Type 0
+RowStays = (q : Queue) (ds : List Deed) (r : ℕ) (x : Row) → row_at q r ≡ Some x → (y : Row) × (row_at (after q ds) r ≡ Some y) × SameGoods x y
+
+-- a row number that the state after has not the state before had not
+abbrev pub NewStays : Type 0
+NewStays = (q : Queue) (ds : List Deed) (r : ℕ) → row_at (after q ds) r ≡ None → row_at q r ≡ None
+
+-- a row keeps its list
+abbrev pub ListStep : Type 0
+ListStep = (q : Queue) (h : ℕ) (a : Act) (r : ℕ) (x : Row) → row_at q r ≡ Some x → list_at (acted q h a) r ≡ list_at q r
+
+abbrev pub ListStays : Type 0
+ListStays = (q : Queue) (ds : List Deed) (r : ℕ) (x : Row) → row_at q r ≡ Some x → list_at (after q ds) r ≡ list_at q r
+
+-- and its place in it
+abbrev pub PlaceStep : Type 0
+PlaceStep = (q : Queue) (h : ℕ) (a : Act) (r : ℕ) (x : Row) → row_at q r ≡ Some x → place_at (acted q h a) r ≡ place_at q r
+
+abbrev pub PlaceStays : Type 0
+PlaceStays = (q : Queue) (ds : List Deed) (r : ℕ) (x : Row) → row_at q r ≡ Some x → place_at (after q ds) r ≡ place_at q r
+
+-- a row that h holds is the very same row, with its count, while others act
+abbrev pub HeldRowStep : Type 0
+HeldRowStep = (q : Queue) (k h : ℕ) (a : Act) (r : ℕ) (x : Row) → k ≢ h → Can q k a → row_at q r ≡ Some x → x.state ≡ Locked h → row_at (acted q k a) r ≡ Some x
+
+abbrev pub HeldRowStays : Type 0
+HeldRowStays = (q : Queue) (ds : List Deed) (h r : ℕ) (x : Row) → own h ds ≡ [] → Legal q ds → row_at q r ≡ Some x → x.state ≡ Locked h → row_at (after q ds) r ≡ Some x
+
+-- it stays held
+abbrev pub HeldStep : Type 0
+HeldStep = (q : Queue) (k h : ℕ) (a : Act) (r : ℕ) → k ≢ h → Can q k a → IsIn q r (Locked h) → IsIn (acted q k a) r (Locked h)
+
+abbrev pub HeldStays : Type 0
+HeldStays = (q : Queue) (ds : List Deed) (h r : ℕ) → own h ds ≡ [] → Legal q ds → IsIn q r (Locked h) → IsIn (after q ds) r (Locked h)
+
+-- what h has reserved stays while others act
+abbrev pub ReservedStep : Type 0
+ReservedStep = (q : Queue) (k h : ℕ) (a : Act) → k ≢ h → reserved_by (acted q k a) h ≡ reserved_by q h
+
+abbrev pub ReservedStays : Type 0
+ReservedStays = (q : Queue) (ds : List Deed) (h : ℕ) → own h ds ≡ [] → reserved_by (after q ds) h ≡ reserved_by q h
+
+-- a deleted row stays deleted
+abbrev pub DeletedStep : Type 0
+DeletedStep = (q : Queue) (h : ℕ) (a : Act) (r : ℕ) → Can q h a → IsIn q r Deleted → IsIn (acted q h a) r Deleted
+
+abbrev pub DeletedStays : Type 0
+DeletedStays = (q : Queue) (ds : List Deed) (r : ℕ) → Legal q ds → IsIn q r Deleted → IsIn (after q ds) r Deleted
+
+-- a row that is dequeued or deleted stays dequeued or deleted
+abbrev pub GoneStep : Type 0
+GoneStep = (q : Queue) (h : ℕ) (a : Act) (r : ℕ) → Can q h a → IsIn q r Dequeued ⊎ IsIn q r Deleted → IsIn (acted q h a) r Dequeued ⊎ IsIn (acted q h a) r Deleted
+
+abbrev pub GoneStays : Type 0
+GoneStays = (q : Queue) (ds : List Deed) (r : ℕ) → Legal q ds → IsIn q r Dequeued ⊎ IsIn q r Deleted → IsIn (after q ds) r Dequeued ⊎ IsIn (after q ds) r Deleted
 
 -- Queue order
 

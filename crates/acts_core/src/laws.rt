@@ -1,5 +1,5 @@
 //! Laws of histories, on which every crate above rests. Each is the contract of a function with no body.
-ghost use Rattle.acts_core.specs.Laws.{AfterAppend, LegalAppend, LegalFront, LegalRest, OwnAppend, OwnMine, OwnOther, PrefixSelf, PrefixMore, PrefixTrans, PrefixShorter, PrefixWhole, PrefixLength, LegalPrefix, OwnBetween, SeenAll, RowAlter, RowAlterOther, RowSum, RowAppend, RowPush, RowPushOther, RowNumber, RowHere, RowElsewhere, ReservedAlter, ReservedAlterOther, ReservedSum, DepthReserve, DepthGiveBack, DepthKept, DepthLow, PrecedesTotal, SoundOpening, SoundStep, SoundAfter};
+ghost use Rattle.acts_core.specs.Laws.{AfterAppend, LegalAppend, LegalFront, LegalRest, OwnAppend, OwnMine, OwnOther, PrefixSelf, PrefixMore, PrefixTrans, PrefixShorter, PrefixWhole, PrefixLength, LegalPrefix, OwnBetween, SeenAll, RowAlter, RowAlterOther, RowSum, RowAppend, RowPush, RowPushOther, RowNumber, RowHere, RowElsewhere, ReservedAlter, ReservedAlterOther, ReservedSum, DepthReserve, DepthGiveBack, DepthKept, DepthLow, PrecedesTotal, SoundOpening, SoundStep, SoundAfter, RowStep, RowStays, NewStays, ListStep, ListStays, PlaceStep, PlaceStays, HeldRowStep, HeldRowStays, HeldStep, HeldStays, ReservedStep, ReservedStays, DeletedStep, DeletedStays, GoneStep, GoneStays};
 
 /// Histories one after the other.
 pub fn histories()
@@ -58,6 +58,28 @@ pub fn soundness()
     ensures opening { SoundOpening }
     ensures step { SoundStep }
     ensures after { SoundAfter }
+{
+}
+
+/// What steps leave as it is.
+pub fn stays()
+    ensures row_step { RowStep }
+    ensures row_stays { RowStays }
+    ensures new_stays { NewStays }
+    ensures list_step { ListStep }
+    ensures list_stays { ListStays }
+    ensures place_step { PlaceStep }
+    ensures place_stays { PlaceStays }
+    ensures held_row_step { HeldRowStep }
+    ensures held_row_stays { HeldRowStays }
+    ensures held_step { HeldStep }
+    ensures held_stays { HeldStays }
+    ensures reserved_step { ReservedStep }
+    ensures reserved_stays { ReservedStays }
+    ensures deleted_step { DeletedStep }
+    ensures deleted_stays { DeletedStays }
+    ensures gone_step { GoneStep }
+    ensures gone_stays { GoneStays }
 {
 }
 
