@@ -85,6 +85,30 @@ module _ {X : Type 0} where
       let rest : find p (filter t xs) ≡ None = find_none-filter p t xs (find_none-tail p x xs e) in
       elim (t x) as (λ b. find p (cond b (x ∷ filter t xs) (filter t xs)) ≡ None) [ true ↦ find_none-cons p x (filter t xs) (find_none-head p x xs e) rest | false ↦ rest ]
 
+  -- what passes is found where only what fails is left out
+  pub find-filter_other : (p t : X → Bool) (xs : List X) → ((x : X) → p x ≡ true → t x ≡ true) → find p (filter t xs) ≡ find p xs
+  find-filter_other p t [] stays = refl
+  find-filter_other p t (x ∷ xs) stays = ⊎_elim
+      (λ (hit : p x ≡ true).
+          ap (find p) (cond-true (t x) (x ∷ filter t xs) (filter t xs) (stays x hit)) ∙ find-here p x (filter t xs) hit ∙ sym (find-here p x xs hit))
+      (λ (miss : p x ≡ false).
+          let rest : find p (filter t xs) ≡ find p xs = find-filter_other p t xs stays in
+          elim (t x) as (λ b. find p (cond b (x ∷ filter t xs) (filter t xs)) ≡ find p (x ∷ xs)) [
+              true ↦ find-past p x (filter t xs) miss ∙ rest ∙ sym (find-past p x xs miss)
+            | false ↦ rest ∙ sym (find-past p x xs miss)
+          ])
+      (cases_Bool (p x))
+
+  -- nothing is found where what passes is left out
+  pub find-filter_not : (p : X → Bool) (xs : List X) → find p (filter (λ x. not (p x)) xs) ≡ None
+  find-filter_not p [] = refl
+  find-filter_not p (x ∷ xs) = ⊎_elim
+      (λ (hit : p x ≡ true). ap (λ (b : Bool). find p (cond (not b) (x ∷ filter (λ z. not (p z)) xs) (filter (λ z. not (p z)) xs))) hit ∙ find-filter_not p xs)
+      (λ (miss : p x ≡ false).
+          ap (λ (b : Bool). find p (cond (not b) (x ∷ filter (λ z. not (p z)) xs) (filter (λ z. not (p z)) xs))) miss
+              ∙ find-past p x (filter (λ z. not (p z)) xs) miss ∙ find-filter_not p xs)
+      (cases_Bool (p x))
+
   -- What a change leaves
 
   -- the first element is the one that is changed

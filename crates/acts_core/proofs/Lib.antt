@@ -3,5 +3,7 @@ pub mod RowFacts
 pub mod Depths
 pub mod SoundSteps
 pub mod Stable
+pub mod Bells
+pub mod Owns
 pub mod Histories
 pub mod Prefixes

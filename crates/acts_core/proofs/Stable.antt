@@ -146,10 +146,10 @@ same_state q r s t a b =
     sym a.2 ∙ ap (λ (x : Row). x.state) same ∙ b.2
 
 -- what is done to another row does not touch this one
-untouched : (q : Queue) (s r : ℕ) (f : Row → Row) (x : Row) → s ≢ r → ((z : Row) → (f z).number ≡ z.number) → row_at q r ≡ Some x → row_at (changed q s f) r ≡ Some x
+pub untouched : (q : Queue) (s r : ℕ) (f : Row → Row) (x : Row) → s ≢ r → ((z : Row) → (f z).number ≡ z.number) → row_at q r ≡ Some x → row_at (changed q s f) r ≡ Some x
 untouched q s r f x other kept found = row_elsewhere q s r f other kept ∙ found
 
-apart_rows : (q : Queue) (s r : ℕ) (x : Row) (t : RowState) → row_at q r ≡ Some x → IsIn q s t → t ≢ x.state → s ≢ r
+pub apart_rows : (q : Queue) (s r : ℕ) (x : Row) (t : RowState) → row_at q r ≡ Some x → IsIn q s t → t ≢ x.state → s ≢ r
 apart_rows q s r x t found can differ e =
     let here : Some can.0 ≡ Some x = sym can.1 ∙ ap (row_at q) e ∙ found in
     let same : can.0 ≡ x = cc in

@@ -1,5 +1,6 @@
 -- the statements of the laws, each proved as the contract of a function in src/laws.rt
-use Rattle.std.specs.Prelude.{◌≡◌, ◌≢◌, ℕ, ◌+◌, ◌*◌, ◌≤◌, Option, Some, None, ◌⊎◌, List, [], ◌∷◌, ◌++◌, length, find, sum_by}
+use Rattle.std.specs.Prelude.{◌≡◌, ◌≢◌, ℕ, ◌+◌, ◌-◌, ◌*◌, ◌≤◌, Option, Some, None, ◌⊎◌, List, [], ◌∷◌, ◌++◌, length, find, sum_by}
+use Rattle.std.specs.List.{AllByRecursion}
 use Rattle.std.specs.Option.{option_map_or}
 use mathlib.Core.List.{IsPrefix}
 use Rattle.acts_core.specs.declared.deeds.Act.{Act}
@@ -8,11 +9,12 @@ use Rattle.acts_core.specs.declared.deeds.Deed.{Deed}
 use Rattle.acts_core.specs.declared.queues.Queue.{Queue}
 use Rattle.acts_core.specs.declared.queues.Reservation.{Reservation}
 use Rattle.acts_core.specs.declared.rows.Row.{Row}
-use Rattle.acts_core.specs.declared.rows.RowState.TheVariants.{Locked, Dequeued, Deleted}
+use Rattle.acts_core.specs.declared.rows.RowState.TheVariants.{Available, Locked, Unlocked, Dequeued, Deleted}
+use Rattle.acts_core.specs.declared.rows.Slip.{Slip}
 use Rattle.acts_core.specs.Keyed.{alter}
-use Rattle.acts_core.specs.State.{is_row, row_at, IsIn, list_at, place_at, is_holder, reserved_by, entries, bytes}
-use Rattle.acts_core.specs.Table.{Can, acted, changed, most_bytes}
-use Rattle.acts_core.specs.History.{after, Legal, own}
+use Rattle.acts_core.specs.State.{is_row, row_at, IsIn, rows_of, list_at, place_at, size_at, is_holder, reserved_by, bell_at, entries, bytes}
+use Rattle.acts_core.specs.Table.{Can, acted, changed, earlier, most_bytes}
+use Rattle.acts_core.specs.History.{after, Legal, own, deeds_of}
 use Rattle.acts_core.specs.Order.{Order, Precedes}
 use Rattle.acts_core.specs.Sound.{Sound, IsOpening}
 
@@ -232,6 +234,118 @@ GoneStep = (q : Queue) (h : ℕ) (a : Act) (r : ℕ) → Can q h a → IsIn q r 
 
 abbrev pub GoneStays : Type 0
 GoneStays = (q : Queue) (ds : List Deed) (r : ℕ) → Legal q ds → IsIn q r Dequeued ⊎ IsIn q r Deleted → IsIn (after q ds) r Dequeued ⊎ IsIn (after q ds) r Deleted
+
+-- the act leaves the bell of consumer c at list l
+abbrev pub LeavesBell : Queue → ℕ → ℕ → Act → Type 0
+LeavesBell q c l (Bell r d) = d ≡ c → list_at q r ≢ l
+LeavesBell q c l (Take d m) = d ≡ c → m ≢ l
+LeavesBell q c l a = Unit {0}
+
+-- each act does, where it stands
+abbrev pub LeaveBell : Queue → ℕ → ℕ → List Deed → Type 0
+LeaveBell q c l [] = Unit {0}
+LeaveBell q c l (d ∷ ds) = LeavesBell q c l d.act × LeaveBell (acted q d.caller d.act) c l ds
+
+-- a bell changes only where it is rung or taken
+abbrev pub BellStep : Type 0
+BellStep = (q : Queue) (h : ℕ) (a : Act) (c l : ℕ) → LeavesBell q c l a → bell_at (acted q h a) c l ≡ bell_at q c l
+
+abbrev pub BellStays : Type 0
+BellStays = (q : Queue) (ds : List Deed) (c l : ℕ) → LeaveBell q c l ds → bell_at (after q ds) c l ≡ bell_at q c l
+
+-- Own acts
+
+-- the row of an own act is in its new state
+abbrev pub OwnAcquired : Type 0
+OwnAcquired = (q : Queue) (h r : ℕ) → Can q h (Acq r) → IsIn (acted q h (Acq r)) r (Locked h)
+
+abbrev pub OwnLocked : Type 0
+OwnLocked = (q : Queue) (h r : ℕ) → Can q h (Lock r) → IsIn (acted q h (Lock r)) r (Locked h)
+
+abbrev pub OwnStolen : Type 0
+OwnStolen = (q : Queue) (h r : ℕ) → Can q h (Steal r) → IsIn (acted q h (Steal r)) r (Locked h)
+
+abbrev pub OwnUnlocked : Type 0
+OwnUnlocked = (q : Queue) (h r n : ℕ) → Can q h (Unlock r n) → IsIn (acted q h (Unlock r n)) r (Unlocked h)
+
+abbrev pub OwnReleased : Type 0
+OwnReleased = (q : Queue) (h r n : ℕ) → Can q h (Rel r n) → IsIn (acted q h (Rel r n)) r Available
+
+abbrev pub OwnDequeued : Type 0
+OwnDequeued = (q : Queue) (h r : ℕ) → Can q h (Deq r) → IsIn (acted q h (Deq r)) r Dequeued
+
+abbrev pub OwnDeleted : Type 0
+OwnDeleted = (q : Queue) (h r : ℕ) → Can q h (Del r) → IsIn (acted q h (Del r)) r Deleted
+
+-- what a caller has reserved is its own
+abbrev pub ReservedHolder : Type 0
+ReservedHolder = (q : Queue) (h : ℕ) → (reserved_by q h).holder ≡ h
+
+-- with one entry of this size more, and with one less
+abbrev pub with_more : Reservation → ℕ → Reservation
+with_more v size = record v { entries = v.entries + 1; bytes = v.bytes + size }
+
+abbrev pub with_less : Reservation → ℕ → Reservation
+with_less v size = record v { entries = v.entries - 1; bytes = v.bytes - size }
+
+abbrev pub OwnReserve : Type 0
+OwnReserve = (q : Queue) (h size : ℕ) → reserved_by (acted q h (Reserve size)) h ≡ with_more (reserved_by q h) size
+
+-- a dequeued row becomes reserved
+abbrev pub OwnDequeue : Type 0
+OwnDequeue = (q : Queue) (h r : ℕ) → reserved_by (acted q h (Deq r)) h ≡ with_more (reserved_by q h) (size_at q r)
+
+abbrev pub OwnGiveBack : Type 0
+OwnGiveBack = (q : Queue) (h size : ℕ) → Sound q → Can q h (GiveBack size) → reserved_by (acted q h (GiveBack size)) h ≡ with_less (reserved_by q h) size
+
+-- a new row takes the place of what was reserved
+abbrev pub OwnEnqueue : Type 0
+OwnEnqueue = (q : Queue) (h r : ℕ) (slip : Slip) (content origin : List ℕ) (n : ℕ) → Sound q → Can q h (Enq r slip content origin n) → reserved_by (acted q h (Enq r slip content origin n)) h ≡ with_less (reserved_by q h) slip.size
+
+-- the new row is there
+abbrev pub OwnEnqueued : Type 0
+OwnEnqueued = (q : Queue) (h r : ℕ) (slip : Slip) (content origin : List ℕ) (n : ℕ) → Can q h (Enq r slip content origin n)
+    → row_at (acted q h (Enq r slip content origin n)) r ≡ Some (record { number = r; slip = slip; state = Available; content = content; origin = origin; count = n })
+
+-- and it is the last of its list
+abbrev pub OwnEnqueuedLast : Type 0
+OwnEnqueuedLast = (q : Queue) (h r : ℕ) (slip : Slip) (content origin : List ℕ) (n : ℕ) → Can q h (Enq r slip content origin n) → place_at (acted q h (Enq r slip content origin n)) r ≡ length (rows_of q slip.list)
+
+-- a bell that is rung is the earlier of what was there and the new one
+abbrev pub BellRung : Type 0
+BellRung = (q : Queue) (h r c : ℕ) → bell_at (acted q h (Bell r c)) c (list_at q r) ≡ earlier (record { consumer = c; list = list_at q r; place = place_at q r; row = r }) (bell_at q c (list_at q r))
+
+-- a bell that is taken is there no more
+abbrev pub BellTaken : Type 0
+BellTaken = (q : Queue) (h c l : ℕ) → bell_at (acted q h (Take c l)) c l ≡ None
+
+-- Locks
+
+-- the act does not end a lock of row r
+abbrev pub KeepsLock : ℕ → Act → Type 0
+KeepsLock r (Unlock s n) = s ≢ r
+KeepsLock r (Rel s n) = s ≢ r
+KeepsLock r (Deq s) = s ≢ r
+KeepsLock r a = Unit {0}
+
+-- the act takes row r
+abbrev pub GainsLock : ℕ → Act → Type 0
+GainsLock r (Acq s) = s ≡ r
+GainsLock r (Lock s) = s ≡ r
+GainsLock r (Steal s) = s ≡ r
+GainsLock r a = ⊥
+
+-- a row that h holds stays held over own acts that do not end the lock, whatever others do
+abbrev pub LockStays : Type 0
+LockStays = (o : Queue) (s0 s1 : List Deed) (h r : ℕ) (acts : List Act) → IsPrefix s0 s1 → Legal o s1 → own h s1 ≡ own h s0 ++ deeds_of h acts → AllByRecursion (KeepsLock r) acts → IsIn (after o s0) r (Locked h) → IsIn (after o s1) r (Locked h)
+
+-- a caller whose one new act takes a row holds it, and each row that it held before is another
+abbrev pub Gains : Type 0
+Gains = (o : Queue) (s0 s1 : List Deed) (h r : ℕ) (a : Act) → IsPrefix s0 s1 → Legal o s1 → own h s1 ≡ own h s0 ++ deeds_of h (a ∷ []) → GainsLock r a → IsIn (after o s1) r (Locked h) × ((x : ℕ) → IsIn (after o s0) x (Locked h) → x ≢ r)
+
+-- as where it acquires an available row
+abbrev pub Acquires : Type 0
+Acquires = (o : Queue) (s0 s1 : List Deed) (h r : ℕ) → IsPrefix s0 s1 → Legal o s1 → own h s1 ≡ own h s0 ++ deeds_of h (Acq r ∷ []) → IsIn (after o s1) r (Locked h) × ((x : ℕ) → IsIn (after o s0) x (Locked h) → x ≢ r)
 
 -- Queue order
 

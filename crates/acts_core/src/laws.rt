@@ -1,5 +1,5 @@
 //! Laws of histories, on which every crate above rests. Each is the contract of a function with no body.
-ghost use Rattle.acts_core.specs.Laws.{AfterAppend, LegalAppend, LegalFront, LegalRest, OwnAppend, OwnMine, OwnOther, PrefixSelf, PrefixMore, PrefixTrans, PrefixShorter, PrefixWhole, PrefixLength, LegalPrefix, OwnBetween, SeenAll, RowAlter, RowAlterOther, RowSum, RowAppend, RowPush, RowPushOther, RowNumber, RowHere, RowElsewhere, ReservedAlter, ReservedAlterOther, ReservedSum, DepthReserve, DepthGiveBack, DepthKept, DepthLow, PrecedesTotal, SoundOpening, SoundStep, SoundAfter, RowStep, RowStays, NewStays, ListStep, ListStays, PlaceStep, PlaceStays, HeldRowStep, HeldRowStays, HeldStep, HeldStays, ReservedStep, ReservedStays, DeletedStep, DeletedStays, GoneStep, GoneStays};
+ghost use Rattle.acts_core.specs.Laws.{AfterAppend, LegalAppend, LegalFront, LegalRest, OwnAppend, OwnMine, OwnOther, PrefixSelf, PrefixMore, PrefixTrans, PrefixShorter, PrefixWhole, PrefixLength, LegalPrefix, OwnBetween, SeenAll, RowAlter, RowAlterOther, RowSum, RowAppend, RowPush, RowPushOther, RowNumber, RowHere, RowElsewhere, ReservedAlter, ReservedAlterOther, ReservedSum, DepthReserve, DepthGiveBack, DepthKept, DepthLow, PrecedesTotal, SoundOpening, SoundStep, SoundAfter, RowStep, RowStays, NewStays, ListStep, ListStays, PlaceStep, PlaceStays, HeldRowStep, HeldRowStays, HeldStep, HeldStays, ReservedStep, ReservedStays, DeletedStep, DeletedStays, GoneStep, GoneStays, BellStep, BellStays, OwnAcquired, OwnLocked, OwnStolen, OwnUnlocked, OwnReleased, OwnDequeued, OwnDeleted, ReservedHolder, OwnReserve, OwnDequeue, OwnGiveBack, OwnEnqueue, OwnEnqueued, OwnEnqueuedLast, BellRung, BellTaken, LockStays, Gains, Acquires};
 
 /// Histories one after the other.
 pub fn histories()
@@ -80,6 +80,37 @@ pub fn stays()
     ensures deleted_stays { DeletedStays }
     ensures gone_step { GoneStep }
     ensures gone_stays { GoneStays }
+    ensures bell_step { BellStep }
+    ensures bell_stays { BellStays }
+{
+}
+
+/// What a caller's own acts do.
+pub fn own_acts()
+    ensures acquired { OwnAcquired }
+    ensures locked { OwnLocked }
+    ensures stolen { OwnStolen }
+    ensures unlocked { OwnUnlocked }
+    ensures released { OwnReleased }
+    ensures dequeued { OwnDequeued }
+    ensures deleted { OwnDeleted }
+    ensures holder { ReservedHolder }
+    ensures reserve { OwnReserve }
+    ensures dequeue { OwnDequeue }
+    ensures give_back { OwnGiveBack }
+    ensures enqueue { OwnEnqueue }
+    ensures enqueued { OwnEnqueued }
+    ensures last { OwnEnqueuedLast }
+    ensures rung { BellRung }
+    ensures taken { BellTaken }
+{
+}
+
+/// Which rows a caller holds after a call of its own, whatever others do.
+pub fn locks()
+    ensures stays { LockStays }
+    ensures gains { Gains }
+    ensures acquires { Acquires }
 {
 }
 

@@ -1,3 +1,4 @@
+use Rattle.acts_core.proofs.Bells.{bell_step, bell_stays}
 use Rattle.acts_core.proofs.Stable.{row_step, row_stays, new_stays, list_step, list_stays, place_step, place_stays, held_row_step, held_row_stays, held_step, held_stays, reserved_step, reserved_stays, deleted_step, deleted_stays, gone_step, gone_stays}
 use Rattle.acts_core.proofs.laws.stays.Goals as goal
 
@@ -51,3 +52,9 @@ returns-clause-gone_step c = gone_step
 
 pub returns-clause-gone_stays : goal.returns-clause-gone_stays
 returns-clause-gone_stays c = gone_stays
+
+pub returns-clause-bell_step : goal.returns-clause-bell_step
+returns-clause-bell_step c = bell_step
+
+pub returns-clause-bell_stays : goal.returns-clause-bell_stays
+returns-clause-bell_stays c = bell_stays
