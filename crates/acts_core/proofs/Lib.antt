@@ -1,2 +1,11 @@
 pub mod Positions
+pub mod KeyedLemmas
+pub mod RowFacts
+pub mod Depths
+pub mod SoundSteps
+pub mod Stable
+pub mod Bells
+pub mod Owns
+pub mod Histories
+pub mod Prefixes
 pub mod Steps

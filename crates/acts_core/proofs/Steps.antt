@@ -13,9 +13,7 @@ use Rattle.acts_core.specs.Keyed.{alter}
 use Rattle.acts_core.specs.State.{is_holder, is_bell, list_at, place_at, size_at, row_at, entries}
 use Rattle.acts_core.specs.Table.{Can, acted, earlier, most_bytes, most_entries}
 use Rattle.acts_core.specs.Sound.{Sound, IsSized, FitsQueue}
-
-pub sound_step : (q : Queue) (h : ℕ) (a : Act) → Can q h a → Sound q → Sound (acted q h a)
-sound_step q h a can s = ?
+use Rattle.acts_core.proofs.SoundSteps.{sound_step}
 
 pub can_at : (q now : Queue) (h : ℕ) (a b : Act) → q ≡ now → b ≡ a → Can now h b → Can q h a
 can_at q now h a b same is can = subst (λ (p : Queue). Can p h a) (sym same) (subst (λ (x : Act). Can now h x) is can)
