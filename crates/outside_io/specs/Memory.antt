@@ -1,4 +1,5 @@
-use Rattle.std.specs.Prelude.{◌≡◌, ℕ, ◌+◌, ◌-◌, ◌^◌, ◌<◌, ◌≤◌, ◌==◌, min, ◌⊎◌, List, length, Contains, Option, Some, None, if◌then◌else◌}
+use Rattle.std.specs.Prelude.{ℕ, ◌<◌, ◌≤◌, ◌==◌, ◌⊎◌, List, length, Option, Some, None, if◌then◌else◌}
+use Rattle.outside_io.specs.Counts.{last_count, IsListed}
 
 -- what contracts see of a MemorySource: the bytes that it has left, the number of its next call, the
 -- numbers of the calls that fail, and how often it has failed
@@ -16,27 +17,6 @@ pub record SinkView : Type 0 where
   pub call : ℕ
   pub failing : List ℕ
   pub faults : ℕ
-
--- what contracts see of an adapter: what it stands on, and how often it has failed
-pub record AdapterView (T : Type 0) : Type 0 where
-  pub inner : T
-  pub faults : ℕ
-
--- the last value of a counter
-abbrev pub last_count : ℕ
-last_count = 2 ^ 64 - 1
-
--- the number of the call after this one; at its last value it stays
-abbrev pub next_call : ℕ → ℕ
-next_call call = min (call + 1) last_count
-
--- this count of faults is at its last value: no call reaches anything any more
-abbrev pub IsSpent : ℕ → Type 0
-IsSpent faults = faults ≡ last_count
-
--- the list has the call's number, which is below its last value
-abbrev pub IsListed : List ℕ → ℕ → Type 0
-IsListed failing call = (call < last_count) × Contains failing call
 
 -- the bytes that a source has left, as far as it tells them
 abbrev pub left_of : SourceView → Option (List ℕ)

@@ -1,4 +1,4 @@
-use Rattle.std.specs.Prelude.{◌≡◌, ℕ, ◌+◌, ◌<◌, ◌≤◌, List, [], ◌++◌, length, take, Option, Some, None, Result, MatchResult, IfSome, OnErr, ⊤}
+use Rattle.std.specs.Prelude.{◌≡◌, ℕ, ◌<◌, ◌≤◌, List, [], ◌++◌, length, take, Option, Some, None, Result, MatchResult, IfSome, OnErr, ⊤}
 
 -- what is told after a call was told before it, and then P holds of the two
 abbrev pub WhileTold : {A : Type 0} → Option A → Option A → (A → A → Type 0) → Type 0

@@ -12,3 +12,6 @@ pub use memory::{MemorySink, MemorySource};
 pub use outside::{Failed, Sink, Source};
 pub use standard::{StdSink, StdSource};
 pub use writing::write_all;
+
+#[cfg(test)]
+mod tests;

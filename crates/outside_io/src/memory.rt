@@ -1,7 +1,8 @@
 //! A source and a sink over memory, which fail at the calls that they are told to fail at.
 ghost use Rattle.std.specs.Prelude.{◌≡◌, ◌+◌, ◌-◌, ◌<◌, ◌≤◌, ◌↔◌, ◌++◌, [], min, length, take, drop, vec_len, vec_capacity, IfOk, OnErr, IsErr, IsTrue};
 ghost use Rattle.outside_io.specs.Told.{HasCause, Reads, Writes};
-ghost use Rattle.outside_io.specs.Memory.{last_count, next_call, IsSpent, IsListed, left_of, written_of, FailsNext, RefusesNext};
+ghost use Rattle.outside_io.specs.Counts.{last_count, next_call, IsSpent, IsListed};
+ghost use Rattle.outside_io.specs.Memory.{left_of, written_of, FailsNext, RefusesNext};
 
 use crate::outside::{Failed, Sink, Source};
 use acts_core::{Bytes, NoMemory};
@@ -124,7 +125,8 @@ impl MemorySink {
 
     /// The bytes that were written.
     pub fn bytes(&self) -> &[u8]
-        ensures { result.now ≡ self.now.written }
+        ensures bytes { result.now ≡ self.now.written }
+        ensures fits { length self.now.written ≤ self.now.room }
     {
         self.bytes.as_slice()
     }

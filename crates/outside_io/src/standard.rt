@@ -2,7 +2,7 @@
 //! terminal gives and takes is not known to any contract, so they tell nothing of content.
 ghost use Rattle.std.specs.Prelude.{◌≡◌, ◌+◌, ◌<◌, ◌≤◌, length, take, None, is_err, IfOk, if◌then◌else◌};
 ghost use Rattle.outside_io.specs.Told.{HasCause, Reads, Writes};
-ghost use Rattle.outside_io.specs.Memory.{IsSpent};
+ghost use Rattle.outside_io.specs.Counts.{IsSpent};
 
 use crate::outside::{Failed, Sink, Source};
 use std::io::{Read, Write};
@@ -17,7 +17,7 @@ pub struct StdSource<R> {
 }
 
 impl<R> Model for StdSource<R> {
-    ghost use Rattle.outside_io.specs.Memory.{AdapterView};
+    ghost use Rattle.outside_io.specs.Adapter.{AdapterView};
 
     ghost Value = { AdapterView R };
 
@@ -69,7 +69,7 @@ pub struct StdSink<W> {
 }
 
 impl<W> Model for StdSink<W> {
-    ghost use Rattle.outside_io.specs.Memory.{AdapterView};
+    ghost use Rattle.outside_io.specs.Adapter.{AdapterView};
 
     ghost Value = { AdapterView W };
 
@@ -102,11 +102,11 @@ impl<W: Write> Sink for StdSink<W> {
             return Ok(bytes.len());
         }
         match self.inner.write(bytes) {
-            Ok(count) if count > 0 => Ok(count),
-            _ => {
+            Ok(0) | Err(_) => {
                 self.faults += 1;
                 Err(Failed)
             }
+            Ok(count) => Ok(count),
         }
     }
 }
