@@ -1,7 +1,7 @@
 -- What was added and taken by several calls in a row.
 use Rattle.std.proofs.Common.{ℕ, ◌+◌, ◌-◌, ◌≤◌, List, ◌++◌, length, take, drop, ap, sym, ◌∙◌, append_assoc, arith, length-append, length-drop, subst}
 use Rattle.std.proofs.Math.Seq.{take-add, take-append-add}
-use Rattle.std.proofs.lemmas.List.{take_rest}
+use Rattle.std.proofs.lemmas.List.{take_rest, take-append-le}
 use Rattle.std.specs.Prelude.{Option, Some, None, Result, Ok, Err}
 use Rattle.outside_io.specs.Told.{Adds, Takes}
 use Rattle.outside_io.specs.Says.{Says}
@@ -30,6 +30,14 @@ front_of_both a b c xs ys n within p q = (
       subst P (sym (take-append-add xs ys n)) (adds_then a b c xs (take n ys) p q),
 )
 
+-- where writing a text failed, writing that text and more has failed
+pub says_cut : {E : Type 0} (e : E) (a b : Option (List ℕ)) (f g : ℕ) (xs ys : List ℕ)
+    → Says {E = E} (Err e) a b f g xs → Says {E = E} (Err e) a b f g (xs ++ ys)
+says_cut e a b f g xs ys p =
+    let P : List ℕ → Type 0 = λ v. Adds a b v in
+    (p.0, (p.1.0, omega (arith, p.1.1, length-append xs ys), subst P (sym (take-append-le p.1.0 xs ys p.1.1)) p.1.2))
+
+-- where a text was written and then another, or a front of it, that is how both texts together were
 pub says_then : {E : Type 0} (u : Unit {0}) (r : Result (Unit {0}) E) (a b c : Option (List ℕ)) (f g h : ℕ) (xs ys : List ℕ) →
     Says {E = E} (Ok u) a b f g xs → Says r b c g h ys → Says r a c f h (xs ++ ys)
 says_then u (Ok v) a b c f g h xs ys p q = (adds_then a b c xs ys p.0 q.0, omega (arith, p.1, q.1))

@@ -32,3 +32,11 @@ Reads old new result buffer =
 abbrev pub Writes : {E : Type 0} → Option (List ℕ) → Option (List ℕ) → Result ℕ E → List ℕ → Type 0
 Writes old new result bytes =
     MatchResult result (λ n. Adds old new (take n bytes) × (0 < n) × (n ≤ length bytes)) (λ _. Adds old new [])
+
+-- what two calls in a row took, they took together
+abbrev pub TakesThen : Type 0
+TakesThen = (a b c : Option (List ℕ)) (xs ys : List ℕ) → Takes a b xs → Takes b c ys → Takes a c (xs ++ ys)
+
+-- what two calls in a row added, they added together
+abbrev pub AddsThen : Type 0
+AddsThen = (a b c : Option (List ℕ)) (xs ys : List ℕ) → Adds a b xs → Adds b c ys → Adds a c (xs ++ ys)

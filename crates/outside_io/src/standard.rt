@@ -2,7 +2,8 @@
 //! terminal gives and takes is not known to any contract, so they tell nothing of content.
 ghost use Rattle.std.specs.Prelude.{◌≡◌, ◌+◌, ◌<◌, ◌≤◌, length, take, None, is_err, IfOk, if◌then◌else◌};
 ghost use Rattle.outside_io.specs.Told.{HasCause, Reads, Writes};
-ghost use Rattle.outside_io.specs.Counts.{IsSpent};
+ghost use Rattle.std.specs.Io.KnownBytes.{ReadConsumes, WriteAppends};
+ghost use Rattle.outside_io.specs.Counts.{last_count, IsSpent};
 
 use crate::outside::{Failed, Sink, Source};
 use std::io::{Read, Write};
@@ -45,6 +46,7 @@ impl<R: Read> Source for StdSource<R> {
         ensures cause { HasCause self.old.faults self.new.faults result }
 
         ensures counted { self.new.faults ≡ (if is_err result then self.old.faults + 1 else self.old.faults) }
+        ensures passed { self.old.faults < last_count → ReadConsumes (R.remaining self.old.inner) (R.remaining self.new.inner) result buffer.new }
         ensures spent { IsSpent self.old.faults → (result ≡ Ok 0) × (self.new ≡ self.old) }
     {
         if self.faults == u64::MAX {
@@ -96,6 +98,7 @@ impl<W: Write> Sink for StdSink<W> {
         ensures cause { HasCause self.old.faults self.new.faults result }
 
         ensures counted { self.new.faults ≡ (if is_err result then self.old.faults + 1 else self.old.faults) }
+        ensures passed { self.old.faults < last_count → WriteAppends (W.contents self.old.inner) (W.contents self.new.inner) result bytes.now }
         ensures spent { IsSpent self.old.faults → (result ≡ Ok (length bytes.now)) × (self.new ≡ self.old) }
     {
         if self.faults == u64::MAX {
