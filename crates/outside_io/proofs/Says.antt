@@ -53,6 +53,7 @@ adds_more a b c bytes at n p q =
     subst R (sym (take-add at n bytes))
     (adds_then a b c (take at bytes) (take n (drop at bytes)) p (subst P (take_rest bytes at) q))
 
+-- a count of the bytes from `at` on stays within all of them
 pub within_rest : (bytes : List ℕ) (at n : ℕ) → at ≤ length bytes
     → n ≤ length (take (length bytes - at) (drop at bytes)) → at + n ≤ length bytes
 within_rest bytes at n h p = omega (arith, ap length (take_rest bytes at), length-drop at bytes)

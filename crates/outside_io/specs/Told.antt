@@ -23,15 +23,19 @@ pub record HasCause {T E : Type 0} (before now : ℕ) (result : Result T E) : Ty
   pub later : before ≤ now
   pub failed : OnErr result (before < now)
 
--- a read took the n bytes that now stand in front of the buffer, and n is 0 only at the end; or it took nothing
+-- a read took the n bytes in front of the buffer, 0 only at the end; where it failed it took nothing
 abbrev pub Reads : {E : Type 0} → Option (List ℕ) → Option (List ℕ) → Result ℕ E → List ℕ → Type 0
 Reads old new result buffer =
-    MatchResult result (λ n. Takes old new (take n buffer) × (n ≡ 0 → AtEnd new)) (λ _. Takes old new [])
+    MatchResult result
+    (λ n. Takes old new (take n buffer) × (n ≡ 0 → AtEnd new))
+    (λ _. Takes old new [])
 
--- a write added the first n of these bytes, at least one; or it added nothing
+-- a write added the first n of these bytes, at least one; where it failed it added nothing
 abbrev pub Writes : {E : Type 0} → Option (List ℕ) → Option (List ℕ) → Result ℕ E → List ℕ → Type 0
 Writes old new result bytes =
-    MatchResult result (λ n. Adds old new (take n bytes) × (0 < n) × (n ≤ length bytes)) (λ _. Adds old new [])
+    MatchResult result
+    (λ n. Adds old new (take n bytes) × (0 < n) × (n ≤ length bytes))
+    (λ _. Adds old new [])
 
 -- what two calls in a row took, they took together
 abbrev pub TakesThen : Type 0

@@ -27,7 +27,12 @@ impl Model for MemorySource {
 
     ghost Value = { SourceView };
 
-    ghost view = { λ s. record { left = drop s.at s.bytes; call = s.call; failing = s.failing.items; faults = s.faults } };
+    ghost view = { λ s. record {
+      left = drop s.at s.bytes;
+      call = s.call;
+      failing = s.failing.items;
+      faults = s.faults;
+    } };
 
     ghost invariant = { λ s. s.at ≤ length s.bytes };
 }
@@ -55,15 +60,29 @@ impl Source for MemorySource {
     /// As many bytes as the buffer and what is left allow.
     fn read(&mut self, buffer: &mut [u8]) -> Result<usize, Failed>
         requires { 0 < length buffer.old }
+
+        // What every source keeps.
         ensures bound { IfOk result (λ n. n ≤ length buffer.new) }
         ensures takes { Reads (left_of self.old) (left_of self.new) result buffer.new }
         ensures cause { HasCause self.old.faults self.new.faults result }
 
+        // Which calls fail, how many bytes the others move, and what each leaves.
         ensures fails { IsErr result ↔ FailsNext self.old }
-        ensures failed { OnErr result (self.new ≡ record self.old { call = next_call self.old.call; faults = self.old.faults + 1 }) }
-        ensures count { self.old.faults < last_count → IfOk result (λ n. n ≡ min (length buffer.old) (length self.old.left)) }
-        ensures rest { self.old.faults < last_count → IfOk result (λ n. self.new ≡ record self.old { left = drop n self.old.left; call = next_call self.old.call }) }
-        ensures spent { IsSpent self.old.faults → (result ≡ Ok 0) × (self.new ≡ self.old) }
+        ensures failed { OnErr result (self.new ≡ record self.old {
+          call = next_call self.old.call;
+          faults = self.old.faults + 1;
+        }) }
+        ensures count { self.old.faults < last_count →
+            IfOk result (λ n. n ≡ min (length buffer.old) (length self.old.left)) }
+        ensures rest { self.old.faults < last_count → IfOk result (λ n. self.new ≡ record self.old {
+          left = drop n self.old.left;
+          call = next_call self.old.call;
+        }) }
+
+        // The end of the counter: nothing is reached any more, and nothing changes.
+        ensures top { self.new.faults ≤ last_count }
+        ensures spent { IsSpent self.old.faults →
+            (result ≡ Ok 0) × (self.new ≡ self.old) × (buffer.new ≡ buffer.old) }
     {
         if self.faults == u64::MAX {
             return Ok(0);
@@ -99,7 +118,13 @@ impl Model for MemorySink {
 
     ghost Value = { SinkView };
 
-    ghost view = { λ s. record { written = s.bytes.items; room = s.room; call = s.call; failing = s.failing.items; faults = s.faults } };
+    ghost view = { λ s. record {
+      written = s.bytes.items;
+      room = s.room;
+      call = s.call;
+      failing = s.failing.items;
+      faults = s.faults;
+    } };
 
     ghost invariant = { λ s. (vec_len s.bytes ≤ s.room) × (s.room ≤ vec_capacity s.bytes) };
 }
@@ -108,7 +133,13 @@ impl MemorySink {
     /// A sink with room for so many bytes, which fails at the calls with these numbers. It takes the
     /// room's memory now and none later, and refuses only for want of it.
     pub fn of(alloc: Global, room: u64, failing: Vec<u64>) -> Result<MemorySink, NoMemory>
-        ensures { IfOk result (λ s. s ≡ record { written = []; room = room; call = 0; failing = failing.items; faults = 0 }) }
+        ensures { IfOk result (λ s. s ≡ record {
+          written = [];
+          room = room;
+          call = 0;
+          failing = failing.items;
+          faults = 0;
+        }) }
     {
         let room = room as usize;
         match Vec::with_capacity(alloc, room) {
@@ -140,14 +171,28 @@ impl Sink for MemorySink {
     /// As many bytes as fit. Takes no memory.
     fn write(&mut self, bytes: &[u8]) -> Result<usize, Failed>
         requires { 0 < length bytes.now }
+
+        // What every sink keeps.
         ensures adds { Writes (written_of self.old) (written_of self.new) result bytes.now }
         ensures cause { HasCause self.old.faults self.new.faults result }
 
+        // Which calls fail, how many bytes the others write, and what each leaves.
         ensures fails { IsErr result ↔ RefusesNext self.old }
-        ensures failed { OnErr result (self.new ≡ record self.old { call = next_call self.old.call; faults = self.old.faults + 1 }) }
-        ensures count { self.old.faults < last_count → IfOk result (λ n. n ≡ min (length bytes.now) (self.old.room - length self.old.written)) }
-        ensures gained { self.old.faults < last_count → IfOk result (λ n. self.new ≡ record self.old { written = self.old.written ++ take n bytes.now; call = next_call self.old.call }) }
-        ensures spent { IsSpent self.old.faults → (result ≡ Ok (length bytes.now)) × (self.new ≡ self.old) }
+        ensures failed { OnErr result (self.new ≡ record self.old {
+          call = next_call self.old.call;
+          faults = self.old.faults + 1;
+        }) }
+        ensures count { self.old.faults < last_count →
+            IfOk result (λ n. n ≡ min (length bytes.now) (self.old.room - length self.old.written)) }
+        ensures gained { self.old.faults < last_count → IfOk result (λ n. self.new ≡ record self.old {
+          written = self.old.written ++ take n bytes.now;
+          call = next_call self.old.call;
+        }) }
+
+        // The end of the counter: nothing is reached any more, and nothing changes.
+        ensures top { self.new.faults ≤ last_count }
+        ensures spent { IsSpent self.old.faults →
+            (result ≡ Ok (length bytes.now)) × (self.new ≡ self.old) }
     {
         if self.faults == u64::MAX {
             return Ok(bytes.len());

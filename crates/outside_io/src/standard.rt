@@ -1,5 +1,5 @@
-//! Adapters of std's readers and writers. They are the edge to the outside: what a file, a socket or a
-//! terminal gives and takes is not known to any contract, so they tell nothing of content.
+//! Adapters of std's readers and writers. They are the edge to the outside: no contract knows what a
+//! file, a socket or a terminal gives and takes, so they tell nothing of content.
 ghost use Rattle.std.specs.Prelude.{◌≡◌, ◌+◌, ◌<◌, ◌≤◌, length, take, None, is_err, IfOk, if◌then◌else◌};
 ghost use Rattle.outside_io.specs.Told.{HasCause, Reads, Writes};
 ghost use Rattle.std.specs.Io.KnownBytes.{ReadConsumes, WriteAppends};
@@ -39,15 +39,25 @@ impl<R: Read> Source for StdSource<R> {
 
     ghost faults = { λ s. s.faults };
 
+    /// What the reader gives in one call.
     fn read(&mut self, buffer: &mut [u8]) -> Result<usize, Failed>
         requires { 0 < length buffer.old }
+
+        // What every source keeps.
         ensures bound { IfOk result (λ n. n ≤ length buffer.new) }
         ensures takes { Reads None None result buffer.new }
         ensures cause { HasCause self.old.faults self.new.faults result }
 
-        ensures counted { self.new.faults ≡ (if is_err result then self.old.faults + 1 else self.old.faults) }
-        ensures passed { self.old.faults < last_count → ReadConsumes (R.remaining self.old.inner) (R.remaining self.new.inner) result buffer.new }
-        ensures spent { IsSpent self.old.faults → (result ≡ Ok 0) × (self.new ≡ self.old) }
+        // Each error is counted. Where the reader itself tells its bytes, these are what was read.
+        ensures counted { self.new.faults ≡
+            (if is_err result then self.old.faults + 1 else self.old.faults) }
+        ensures passed { self.old.faults < last_count →
+            ReadConsumes (R.remaining self.old.inner) (R.remaining self.new.inner) result buffer.new }
+
+        // The end of the counter: the reader is reached no more.
+        ensures top { self.new.faults ≤ last_count }
+        ensures spent { IsSpent self.old.faults →
+            (result ≡ Ok 0) × (self.new ≡ self.old) × (buffer.new ≡ buffer.old) }
     {
         if self.faults == u64::MAX {
             return Ok(0);
@@ -92,14 +102,25 @@ impl<W: Write> Sink for StdSink<W> {
 
     ghost faults = { λ s. s.faults };
 
+    /// What the writer takes in one call.
     fn write(&mut self, bytes: &[u8]) -> Result<usize, Failed>
         requires { 0 < length bytes.now }
+
+        // What every sink keeps.
         ensures adds { Writes None None result bytes.now }
         ensures cause { HasCause self.old.faults self.new.faults result }
 
-        ensures counted { self.new.faults ≡ (if is_err result then self.old.faults + 1 else self.old.faults) }
-        ensures passed { self.old.faults < last_count → WriteAppends (W.contents self.old.inner) (W.contents self.new.inner) result bytes.now }
-        ensures spent { IsSpent self.old.faults → (result ≡ Ok (length bytes.now)) × (self.new ≡ self.old) }
+        // Each error, and each write of nothing, is counted. Where the writer itself tells its bytes,
+        // these are what was written.
+        ensures counted { self.new.faults ≡
+            (if is_err result then self.old.faults + 1 else self.old.faults) }
+        ensures passed { self.old.faults < last_count →
+            WriteAppends (W.contents self.old.inner) (W.contents self.new.inner) result bytes.now }
+
+        // The end of the counter: the writer is reached no more.
+        ensures top { self.new.faults ≤ last_count }
+        ensures spent { IsSpent self.old.faults →
+            (result ≡ Ok (length bytes.now)) × (self.new ≡ self.old) }
     {
         if self.faults == u64::MAX {
             return Ok(bytes.len());
