@@ -69,26 +69,28 @@ more_bytes h size (Some v) = refl
 
 -- a reservation adds its entry and its bytes
 pub depth_reserving : (q : Queue) (h size : ℕ) → (entries (reserving q h size) ≡ entries q + 1) × (bytes (reserving q h size) ≡ bytes q + size)
-depth_reserving q h size =
-    (omega (arith, sum-alter (λ (v : Reservation). v.entries) (is_holder h) (more h size) q.reserved, more_entries h size (find (is_holder h) q.reserved))
-    , omega (arith, sum-alter (λ (v : Reservation). v.bytes) (is_holder h) (more h size) q.reserved, more_bytes h size (find (is_holder h) q.reserved)))
+depth_reserving q h size = (
+  omega (arith, sum-alter (λ (v : Reservation). v.entries) (is_holder h) (more h size) q.reserved, more_entries h size (find (is_holder h) q.reserved)),
+  omega (arith, sum-alter (λ (v : Reservation). v.bytes) (is_holder h) (more h size) q.reserved, more_bytes h size (find (is_holder h) q.reserved)),
+)
 
 less_weights : (h size : ℕ) (o : Option Reservation) → CanGive (unwrap_or o (nothing h)) size
     → (option_map_or (λ (v : Reservation). v.entries) (less size o) 0 + 1 ≡ option_map_or (λ (v : Reservation). v.entries) o 0) × (option_map_or (λ (v : Reservation). v.bytes) (less size o) 0 + size ≡ option_map_or (λ (v : Reservation). v.bytes) o 0)
 less_weights h size None can = absurd (omega (arith, can.entry))
 less_weights h size (Some v) can = ⊎_elim
     (λ (last : v.entries ≡ 1).
-        rw (less_last size v last) (omega arith, omega (arith, can.bytes, can.rest)))
+    rw (less_last size v last) (omega arith, omega (arith, can.bytes, can.rest)))
     (λ (many : v.entries ≢ 1).
-        rw (less_more size v many) (omega (arith, can.entry), omega (arith, can.bytes)))
+    rw (less_more size v many) (omega (arith, can.entry), omega (arith, can.bytes)))
     (cases_eq v.entries 1)
 
 -- what is given back takes its entry and its bytes out
 pub depth_giving : (q : Queue) (h size : ℕ) → CanGive (reserved_by q h) size → (entries (giving_back q h size) + 1 ≡ entries q) × (bytes (giving_back q h size) + size ≡ bytes q)
 depth_giving q h size can =
-    let w = less_weights h size (find (is_holder h) q.reserved) can in
-    (omega (arith, sum-alter (λ (v : Reservation). v.entries) (is_holder h) (less size) q.reserved, w.0)
-    , omega (arith, sum-alter (λ (v : Reservation). v.bytes) (is_holder h) (less size) q.reserved, w.1))
+    let w = less_weights h size (find (is_holder h) q.reserved) can in (
+      omega (arith, sum-alter (λ (v : Reservation). v.entries) (is_holder h) (less size) q.reserved, w.0),
+      omega (arith, sum-alter (λ (v : Reservation). v.bytes) (is_holder h) (less size) q.reserved, w.1),
+    )
 
 -- a new row that counts adds its entry and its bytes
 pub depth_appending : (q : Queue) (x : Row) → counts x.state ≡ true → (entries (appending q x) ≡ entries q + 1) × (bytes (appending q x) ≡ bytes q + x.slip.size)
@@ -125,7 +127,7 @@ row_low x small = elim (counts x.state) as (λ b. (if b then x.slip.size else 0)
 pub depth_low : (q : Queue) → Sound q → bytes q ≤ most_bytes * entries q
 depth_low q sound =
     let rows : sum_by row_bytes q.rows ≤ most_bytes * sum_by row_entries q.rows =
-        sum_by-le-times row_bytes row_entries most_bytes q.rows (all-weaker (FitsQueue q.lists q.consumers) (λ (x : Row). row_bytes x ≤ most_bytes * row_entries x) q.rows (λ x fit. row_low x fit.size) sound.rows_fit) in
+    sum_by-le-times row_bytes row_entries most_bytes q.rows (all-weaker (FitsQueue q.lists q.consumers) (λ (x : Row). row_bytes x ≤ most_bytes * row_entries x) q.rows (λ x fit. row_low x fit.size) sound.rows_fit) in
     let kept : sum_by (λ (v : Reservation). v.bytes) q.reserved ≤ most_bytes * sum_by (λ (v : Reservation). v.entries) q.reserved =
-        sum_by-le-times (λ (v : Reservation). v.bytes) (λ (v : Reservation). v.entries) most_bytes q.reserved (all-weaker IsSized (λ (v : Reservation). v.bytes ≤ most_bytes * v.entries) q.reserved (λ v sized. sized.bytes) sound.reserved_sized) in
+    sum_by-le-times (λ (v : Reservation). v.bytes) (λ (v : Reservation). v.entries) most_bytes q.reserved (all-weaker IsSized (λ (v : Reservation). v.bytes ≤ most_bytes * v.entries) q.reserved (λ v sized. sized.bytes) sound.reserved_sized) in
     omega (arith, rows, kept)

@@ -57,8 +57,8 @@ own_deleted q h r can = changed_in q r (in_state Deleted) can.0 Deleted can.1 re
 same_reservation : (u v : Reservation) → u.holder ≡ v.holder → u.entries ≡ v.entries → u.bytes ≡ v.bytes → u ≡ v
 same_reservation u v a b c =
     ap (λ (n : ℕ). let w : Reservation = record { holder = n; entries = u.entries; bytes = u.bytes } in w) a
-        ∙ ap (λ (n : ℕ). let w : Reservation = record { holder = v.holder; entries = n; bytes = u.bytes } in w) b
-        ∙ ap (λ (n : ℕ). let w : Reservation = record { holder = v.holder; entries = v.entries; bytes = n } in w) c
+    ∙ ap (λ (n : ℕ). let w : Reservation = record { holder = v.holder; entries = n; bytes = u.bytes } in w) b
+    ∙ ap (λ (n : ℕ). let w : Reservation = record { holder = v.holder; entries = v.entries; bytes = n } in w) c
 
 holder_or : (h : ℕ) (o : Option Reservation) → ((v : Reservation) → o ≡ Some v → v.holder ≡ h) → (unwrap_or o (nothing h)).holder ≡ h
 holder_or h None holder = refl
@@ -76,21 +76,21 @@ more_is h size (Some v) = refl
 pub own_reserving : (q : Queue) (h size : ℕ) → reserved_by (reserving q h size) h ≡ record (reserved_by q h) { entries = (reserved_by q h).entries + 1; bytes = (reserved_by q h).bytes + size }
 own_reserving q h size =
     ap (λ (o : Option Reservation). unwrap_or o (nothing h))
-        (reserved_alter h (more h size) q.reserved (record (reserved_by q h) { entries = (reserved_by q h).entries + 1; bytes = (reserved_by q h).bytes + size })
-            (more_is h size (find (is_holder h) q.reserved)) (reserved_by_holder q h))
+    (reserved_alter h (more h size) q.reserved (record (reserved_by q h) { entries = (reserved_by q h).entries + 1; bytes = (reserved_by q h).bytes + size })
+    (more_is h size (find (is_holder h) q.reserved)) (reserved_by_holder q h))
 
 giving_by : (q : Queue) (h size : ℕ) (o : Option Reservation) → Sound q → find (is_holder h) q.reserved ≡ o → CanGive (unwrap_or o (nothing h)) size
     → reserved_by (giving_back q h size) h ≡ record (unwrap_or o (nothing h)) { entries = (unwrap_or o (nothing h)).entries - 1; bytes = (unwrap_or o (nothing h)).bytes - size }
 giving_by q h size None sound found can = absurd (omega (arith, can.entry))
 giving_by q h size (Some v) sound found can = ⊎_elim
     (λ (last : v.entries ≡ 1).
-        let gone : find (is_holder h) (giving_back q h size).reserved ≡ None =
-            find-alter_gone same_holder (is_holder h) (less size) q.reserved (λ x z here out. ap (λ (n : ℕ). z.holder == n) (sym (eqb-true x.holder h here)) ∙ out) sound.reserved_apart (ap (less size) found ∙ less_last size v last) in
-        ap (λ (o : Option Reservation). unwrap_or o (nothing h)) gone
-            ∙ same_reservation (nothing h) (record v { entries = v.entries - 1; bytes = v.bytes - size }) (sym (reserved_holder q h v found)) (omega arith) (omega (arith, can.bytes, can.rest)))
+    let gone : find (is_holder h) (giving_back q h size).reserved ≡ None =
+    find-alter_gone same_holder (is_holder h) (less size) q.reserved (λ x z here out. ap (λ (n : ℕ). z.holder == n) (sym (eqb-true x.holder h here)) ∙ out) sound.reserved_apart (ap (less size) found ∙ less_last size v last) in
+    ap (λ (o : Option Reservation). unwrap_or o (nothing h)) gone
+    ∙ same_reservation (nothing h) (record v { entries = v.entries - 1; bytes = v.bytes - size }) (sym (reserved_holder q h v found)) (omega arith) (omega (arith, can.bytes, can.rest)))
     (λ (many : v.entries ≢ 1).
-        ap (λ (o : Option Reservation). unwrap_or o (nothing h))
-            (reserved_alter h (less size) q.reserved (record v { entries = v.entries - 1; bytes = v.bytes - size }) (ap (less size) found ∙ less_more size v many) (reserved_holder q h v found)))
+    ap (λ (o : Option Reservation). unwrap_or o (nothing h))
+    (reserved_alter h (less size) q.reserved (record v { entries = v.entries - 1; bytes = v.bytes - size }) (ap (less size) found ∙ less_more size v many) (reserved_holder q h v found)))
     (cases_eq v.entries 1)
 
 -- one entry less, and its bytes
@@ -111,14 +111,14 @@ own_enqueued q h r slip content origin n can = row_push r q.rows (record { numbe
 last_place : (q : Queue) (r l : ℕ) (y : Row) → row_at q r ≡ None → y.number ≡ r → y.slip.list ≡ l → position_or_len (is_row r) (filter (is_of_list l) (q.rows ++ y ∷ [])) ≡ length (rows_of q l)
 last_place q r l y new number list =
     ap (position_or_len (is_row r)) (filter-append (is_of_list l) q.rows (y ∷ []) ∙ ap (λ (zs : List Row). rows_of q l ++ zs) (cond-true (is_of_list l y) (y ∷ []) [] (eq-eqb y.slip.list l list)))
-        ∙ position-push (is_row r) (rows_of q l) y (find_none-filter (is_row r) (is_of_list l) q.rows new) (eq-eqb y.number r number)
+    ∙ position-push (is_row r) (rows_of q l) y (find_none-filter (is_row r) (is_of_list l) q.rows new) (eq-eqb y.number r number)
 
 -- and it is the last of its list
 pub own_enqueued_last : (q : Queue) (h r : ℕ) (slip : Slip) (content origin : List ℕ) (n : ℕ) → Can q h (Enq r slip content origin n) → place_at (acted q h (Enq r slip content origin n)) r ≡ length (rows_of q slip.list)
 own_enqueued_last q h r slip content origin n can =
     let y : Row = record { number = r; slip = slip; state = Available; content = content; origin = origin; count = n } in
     ap (λ (l : ℕ). position_or_len (is_row r) (filter (is_of_list l) (q.rows ++ y ∷ []))) (list_found (acted q h (Enq r slip content origin n)) r y (own_enqueued q h r slip content origin n can))
-        ∙ last_place q r slip.list y can.new refl refl
+    ∙ last_place q r slip.list y can.new refl refl
 
 -- Locks that stay
 
@@ -149,12 +149,12 @@ lock_kept q [] h r acts legal mine keep held = held
 lock_kept q (d ∷ ds) h r [] legal mine keep held = held_stays q (d ∷ ds) h r mine legal held
 lock_kept q (d ∷ ds) h r (a ∷ acts) legal mine keep held = ⊎_elim
     (λ (me : d.caller ≡ h).
-        let m = mine_first h d ds (deeds_of h acts) a me mine in
-        let can : Can q h a = subst (λ (e : Deed). Can q e.caller e.act) m.0 legal.0 in
-        let next : IsIn (acted q d.caller d.act) r (Locked h) = subst (λ (e : Deed). IsIn (acted q e.caller e.act) r (Locked h)) (sym m.0) (held_mine q h a r can keep.0 held) in
-        lock_kept (acted q d.caller d.act) ds h r acts legal.1 m.1 keep.1 next)
+    let m = mine_first h d ds (deeds_of h acts) a me mine in
+    let can : Can q h a = subst (λ (e : Deed). Can q e.caller e.act) m.0 legal.0 in
+    let next : IsIn (acted q d.caller d.act) r (Locked h) = subst (λ (e : Deed). IsIn (acted q e.caller e.act) r (Locked h)) (sym m.0) (held_mine q h a r can keep.0 held) in
+    lock_kept (acted q d.caller d.act) ds h r acts legal.1 m.1 keep.1 next)
     (λ (other : d.caller ≢ h).
-        lock_kept (acted q d.caller d.act) ds h r (a ∷ acts) legal.1 (sym (own-cons_other h d ds other) ∙ mine) keep (held_step q d.caller h d.act r other legal.0 held))
+    lock_kept (acted q d.caller d.act) ds h r (a ∷ acts) legal.1 (sym (own-cons_other h d ds other) ∙ mine) keep (held_step q d.caller h d.act r other legal.0 held))
     (cases_eq d.caller h)
 
 -- the own deeds behind a prefix
@@ -169,14 +169,15 @@ pub lock_stays : (o : Queue) (s0 s1 : List Deed) (h r : ℕ) (acts : List Act) �
 lock_stays o s0 s1 h r acts p legal more keep held =
     let whole : Legal o (s0 ++ p.0) = subst (Legal o) (sym p.1) legal in
     subst (λ (q : Queue). IsIn q r (Locked h)) (after_rest o s0 s1 p)
-        (lock_kept (after o s0) p.0 h r acts (legal_rest o s0 p.0 whole) (own_rest h s0 s1 (deeds_of h acts) p more) keep held)
+    (lock_kept (after o s0) p.0 h r acts (legal_rest o s0 p.0 whole) (own_rest h s0 s1 (deeds_of h acts) p more) keep held)
 
 -- Locks that are gained
 
 gained : (q : Queue) (h s r : ℕ) (t : RowState) → t ≢ Locked h → s ≡ r → IsIn q s t → IsIn (changed q s (in_state (Locked h))) r (Locked h) × ((x : ℕ) → IsIn q x (Locked h) → x ≢ r)
-gained q h s r t differ e can =
-    (subst (λ (n : ℕ). IsIn (changed q s (in_state (Locked h))) n (Locked h)) e (changed_in q s (in_state (Locked h)) can.0 (Locked h) can.1 refl refl)
-    , λ x held f. differ (same_state q s t (Locked h) can (subst (λ (n : ℕ). IsIn q n (Locked h)) (f ∙ sym e) held)))
+gained q h s r t differ e can = (
+  subst (λ (n : ℕ). IsIn (changed q s (in_state (Locked h))) n (Locked h)) e (changed_in q s (in_state (Locked h)) can.0 (Locked h) can.1 refl refl),
+  λ x held f. differ (same_state q s t (Locked h) can (subst (λ (n : ℕ). IsIn q n (Locked h)) (f ∙ sym e) held)),
+)
 
 -- an act that gains a row makes it held, and it was not held before
 gains_step : (q : Queue) (h : ℕ) (a : Act) (r : ℕ) → Can q h a → GainsLock r a → IsIn (acted q h a) r (Locked h) × ((x : ℕ) → IsIn q x (Locked h) → x ≢ r)
@@ -197,14 +198,14 @@ pub lock_gained : (q : Queue) (ds : List Deed) (h r : ℕ) (a : Act) → Legal q
 lock_gained q [] h r a legal mine gains = absurd (cc)
 lock_gained q (d ∷ ds) h r a legal mine gains = ⊎_elim
     (λ (me : d.caller ≡ h).
-        let m = mine_first h d ds [] a me mine in
-        let can : Can q h a = subst (λ (e : Deed). Can q e.caller e.act) m.0 legal.0 in
-        let g = gains_step q h a r can gains in
-        let next : IsIn (acted q d.caller d.act) r (Locked h) = subst (λ (e : Deed). IsIn (acted q e.caller e.act) r (Locked h)) (sym m.0) g.0 in
-        (held_stays (acted q d.caller d.act) ds h r m.1 legal.1 next, g.1))
+    let m = mine_first h d ds [] a me mine in
+    let can : Can q h a = subst (λ (e : Deed). Can q e.caller e.act) m.0 legal.0 in
+    let g = gains_step q h a r can gains in
+    let next : IsIn (acted q d.caller d.act) r (Locked h) = subst (λ (e : Deed). IsIn (acted q e.caller e.act) r (Locked h)) (sym m.0) g.0 in
+    (held_stays (acted q d.caller d.act) ds h r m.1 legal.1 next, g.1))
     (λ (other : d.caller ≢ h).
-        let t = lock_gained (acted q d.caller d.act) ds h r a legal.1 (sym (own-cons_other h d ds other) ∙ mine) gains in
-        (t.0, λ x held. t.1 x (held_step q d.caller h d.act x other legal.0 held)))
+    let t = lock_gained (acted q d.caller d.act) ds h r a legal.1 (sym (own-cons_other h d ds other) ∙ mine) gains in
+    (t.0, λ x held. t.1 x (held_step q d.caller h d.act x other legal.0 held)))
     (cases_eq d.caller h)
 
 -- a caller whose only new act gains a row holds it, and held it not before

@@ -86,7 +86,7 @@ less_some size None v e = absurd (cc)
 less_some size (Some u) v e = ⊎_elim
     (λ (last : u.entries ≡ 1). let bad : None ≡ Some v = sym (less_last size u last) ∙ e in absurd (cc))
     (λ (many : u.entries ≢ 1).
-        let both : Some (record u { entries = u.entries - 1; bytes = u.bytes - size }) ≡ Some v = sym (less_more size u many) ∙ e in
-        let same : v ≡ record u { entries = u.entries - 1; bytes = u.bytes - size } = cc in
-        (u, refl, many, same))
+    let both : Some (record u { entries = u.entries - 1; bytes = u.bytes - size }) ≡ Some v = sym (less_more size u many) ∙ e in
+    let same : v ≡ record u { entries = u.entries - 1; bytes = u.bytes - size } = cc in
+    (u, refl, many, same))
     (cases_eq u.entries 1)

@@ -48,10 +48,10 @@ bell_from_key c l b e f = and_from (b.consumer == c) (b.list == l) (eq-eqb b.con
 bell_splits : (c l : ℕ) (a b : ring.Bell) → is_bell c l a ≡ false → is_bell c l b ≡ true → same_bell a b ≡ false
 bell_splits c l a b out here = ⊎_elim
     (λ (same : same_bell a b ≡ true).
-        let k = bell_key a.consumer a.list b same in
-        let t = bell_key c l b here in
-        let passes : is_bell c l a ≡ true = bell_from_key c l a (sym k.0 ∙ t.0) (sym k.1 ∙ t.1) in
-        absurd (cc))
+    let k = bell_key a.consumer a.list b same in
+    let t = bell_key c l b here in
+    let passes : is_bell c l a ≡ true = bell_from_key c l a (sym k.0 ∙ t.0) (sym k.1 ∙ t.1) in
+    absurd (cc))
     (λ (apart : same_bell a b ≡ false). apart)
     (cases_Bool (same_bell a b))
 
@@ -69,33 +69,36 @@ mapped f (Some x) y e = (x, refl, cc)
 
 fit_same : (l c : ℕ) (x y : Row) → FitsQueue l c x → y.slip ≡ x.slip → FitsQueue l c y
 fit_same l c x y fit same = record {
-    size = subst (λ (s : Slip). s.size ≤ most_bytes) (sym same) fit.size;
-    list = subst (λ (s : Slip). s.list < l) (sym same) fit.list;
-    mask = subst (λ (s : Slip). s.mask < 2 ^ c) (sym same) fit.mask }
+  size = subst (λ (s : Slip). s.size ≤ most_bytes) (sym same) fit.size;
+  list = subst (λ (s : Slip). s.list < l) (sym same) fit.list;
+  mask = subst (λ (s : Slip). s.mask < 2 ^ c) (sym same) fit.mask;
+}
 
 -- a change that keeps the number and the slip
 pub sound_changed : (q : Queue) (r : ℕ) (f : Row → Row) → Sound q → ((x : Row) → (f x).number ≡ x.number) → ((x : Row) → (f x).slip ≡ x.slip) → entries (changed q r f) ≤ most_entries → Sound (changed q r f)
 sound_changed q r f sound number slip few = record {
-    rows_apart = apart-alter same_number (is_row r) (option_map f) q.rows (number_splits r) (number_joins r) (λ y e. eq-eqb y.number r (changed_number q r f number y e)) sound.rows_apart;
-    rows_fit = all-alter (FitsQueue q.lists q.consumers) (is_row r) (option_map f) q.rows sound.rows_fit
-        (λ y e. let m = mapped f (row_at q r) y e in
-            fit_same q.lists q.consumers m.0 y (all-find (FitsQueue q.lists q.consumers) (is_row r) q.rows m.0 sound.rows_fit m.1) (ap (λ (z : Row). z.slip) (sym m.2) ∙ slip m.0));
-    reserved_apart = sound.reserved_apart;
-    reserved_sized = sound.reserved_sized;
-    bells_apart = sound.bells_apart;
-    bells_fit = sound.bells_fit;
-    small = few }
+  rows_apart = apart-alter same_number (is_row r) (option_map f) q.rows (number_splits r) (number_joins r) (λ y e. eq-eqb y.number r (changed_number q r f number y e)) sound.rows_apart;
+  rows_fit = all-alter (FitsQueue q.lists q.consumers) (is_row r) (option_map f) q.rows sound.rows_fit
+      (λ y e. let m = mapped f (row_at q r) y e in
+      fit_same q.lists q.consumers m.0 y (all-find (FitsQueue q.lists q.consumers) (is_row r) q.rows m.0 sound.rows_fit m.1) (ap (λ (z : Row). z.slip) (sym m.2) ∙ slip m.0));
+  reserved_apart = sound.reserved_apart;
+  reserved_sized = sound.reserved_sized;
+  bells_apart = sound.bells_apart;
+  bells_fit = sound.bells_fit;
+  small = few;
+}
 
 -- a new row of a new number that fits
 pub sound_appending : (q : Queue) (x : Row) → Sound q → row_at q x.number ≡ None → FitsQueue q.lists q.consumers x → entries (appending q x) ≤ most_entries → Sound (appending q x)
 sound_appending q x sound new fit few = record {
-    rows_apart = apart-push same_number (is_row x.number) q.rows x (λ z out. number_splits x.number z x out (eq-eqb x.number x.number refl)) new sound.rows_apart;
-    rows_fit = all-push (FitsQueue q.lists q.consumers) q.rows x sound.rows_fit fit;
-    reserved_apart = sound.reserved_apart;
-    reserved_sized = sound.reserved_sized;
-    bells_apart = sound.bells_apart;
-    bells_fit = sound.bells_fit;
-    small = few }
+  rows_apart = apart-push same_number (is_row x.number) q.rows x (λ z out. number_splits x.number z x out (eq-eqb x.number x.number refl)) new sound.rows_apart;
+  rows_fit = all-push (FitsQueue q.lists q.consumers) q.rows x sound.rows_fit fit;
+  reserved_apart = sound.reserved_apart;
+  reserved_sized = sound.reserved_sized;
+  bells_apart = sound.bells_apart;
+  bells_fit = sound.bells_fit;
+  small = few;
+}
 
 -- a row that is found fits
 pub row_fits : (q : Queue) (r : ℕ) (x : Row) → Sound q → row_at q r ≡ Some x → FitsQueue q.lists q.consumers x
@@ -115,15 +118,16 @@ more_sized h size (Some u) v small sized e =
 -- a caller's reservation with one entry more
 pub sound_reserving : (q : Queue) (h size : ℕ) → Sound q → size ≤ most_bytes → entries (reserving q h size) ≤ most_entries → Sound (reserving q h size)
 sound_reserving q h size sound small few = record {
-    rows_apart = sound.rows_apart;
-    rows_fit = sound.rows_fit;
-    reserved_apart = apart-alter same_holder (is_holder h) (more h size) q.reserved (holder_splits h) (holder_joins h)
-        (λ v e. eq-eqb v.holder h (more_holder h size (find (is_holder h) q.reserved) v (reserved_holder q h) e)) sound.reserved_apart;
-    reserved_sized = all-alter IsSized (is_holder h) (more h size) q.reserved sound.reserved_sized
-        (λ v e. more_sized h size (find (is_holder h) q.reserved) v small (λ u found. all-find IsSized (is_holder h) q.reserved u sound.reserved_sized found) e);
-    bells_apart = sound.bells_apart;
-    bells_fit = sound.bells_fit;
-    small = few }
+  rows_apart = sound.rows_apart;
+  rows_fit = sound.rows_fit;
+  reserved_apart = apart-alter same_holder (is_holder h) (more h size) q.reserved (holder_splits h) (holder_joins h)
+      (λ v e. eq-eqb v.holder h (more_holder h size (find (is_holder h) q.reserved) v (reserved_holder q h) e)) sound.reserved_apart;
+  reserved_sized = all-alter IsSized (is_holder h) (more h size) q.reserved sound.reserved_sized
+      (λ v e. more_sized h size (find (is_holder h) q.reserved) v small (λ u found. all-find IsSized (is_holder h) q.reserved u sound.reserved_sized found) e);
+  bells_apart = sound.bells_apart;
+  bells_fit = sound.bells_fit;
+  small = few;
+}
 
 -- what a caller has reserved, where something is found
 pub reserved_found : (q : Queue) (h : ℕ) (v : Reservation) → find (is_holder h) q.reserved ≡ Some v → reserved_by q h ≡ v
@@ -138,17 +142,18 @@ less_sized u v size can many same =
 -- a caller's reservation with one entry less
 pub sound_giving : (q : Queue) (h size : ℕ) → Sound q → CanGive (reserved_by q h) size → entries (giving_back q h size) ≤ most_entries → Sound (giving_back q h size)
 sound_giving q h size sound can few = record {
-    rows_apart = sound.rows_apart;
-    rows_fit = sound.rows_fit;
-    reserved_apart = apart-alter same_holder (is_holder h) (less size) q.reserved (holder_splits h) (holder_joins h)
-        (λ v e. let u = less_some size (find (is_holder h) q.reserved) v e in eq-eqb v.holder h (ap (λ (w : Reservation). w.holder) u.3 ∙ reserved_holder q h u.0 u.1))
-        sound.reserved_apart;
-    reserved_sized = all-alter IsSized (is_holder h) (less size) q.reserved sound.reserved_sized
-        (λ v e. let u = less_some size (find (is_holder h) q.reserved) v e in
-            less_sized u.0 v size (subst (λ (w : Reservation). CanGive w size) (reserved_found q h u.0 u.1) can) u.2 u.3);
-    bells_apart = sound.bells_apart;
-    bells_fit = sound.bells_fit;
-    small = few }
+  rows_apart = sound.rows_apart;
+  rows_fit = sound.rows_fit;
+  reserved_apart = apart-alter same_holder (is_holder h) (less size) q.reserved (holder_splits h) (holder_joins h)
+      (λ v e. let u = less_some size (find (is_holder h) q.reserved) v e in eq-eqb v.holder h (ap (λ (w : Reservation). w.holder) u.3 ∙ reserved_holder q h u.0 u.1))
+      sound.reserved_apart;
+  reserved_sized = all-alter IsSized (is_holder h) (less size) q.reserved sound.reserved_sized
+      (λ v e. let u = less_some size (find (is_holder h) q.reserved) v e in
+      less_sized u.0 v size (subst (λ (w : Reservation). CanGive w size) (reserved_found q h u.0 u.1) can) u.2 u.3);
+  bells_apart = sound.bells_apart;
+  bells_fit = sound.bells_fit;
+  small = few;
+}
 
 -- Bells
 
@@ -157,41 +162,43 @@ pub earlier_is : (b : ring.Bell) (o : Option ring.Bell) (d : ring.Bell) → earl
 earlier_is b None d e = inl (cc)
 earlier_is b (Some a) d e = ⊎_elim
     (λ (first : nat_lt b.place a.place ≡ true).
-        let new : Some b ≡ Some d = sym (cond-true (nat_lt b.place a.place) (Some b) (Some a) first) ∙ e in
-        inl (cc))
+    let new : Some b ≡ Some d = sym (cond-true (nat_lt b.place a.place) (Some b) (Some a) first) ∙ e in
+    inl (cc))
     (λ (second : nat_lt b.place a.place ≡ false). inr (sym (cond-false (nat_lt b.place a.place) (Some b) (Some a) second) ∙ e))
     (cases_Bool (nat_lt b.place a.place))
 
 -- a bell of a consumer and a list that the queue has
 pub sound_ringing : (q : Queue) (b : ring.Bell) → Sound q → b.consumer < q.consumers → b.list < q.lists → Sound (ringing q b)
 sound_ringing q b sound consumer list = record {
-    rows_apart = sound.rows_apart;
-    rows_fit = sound.rows_fit;
-    reserved_apart = sound.reserved_apart;
-    reserved_sized = sound.reserved_sized;
-    bells_apart = apart-alter same_bell (is_bell b.consumer b.list) (earlier b) q.bells (bell_splits b.consumer b.list) (bell_joins b.consumer b.list)
-        (λ d e. ⊎_elim
-            (λ (new : d ≡ b). bell_from_key b.consumer b.list d (ap (λ (a : ring.Bell). a.consumer) new) (ap (λ (a : ring.Bell). a.list) new))
-            (λ (old : find (is_bell b.consumer b.list) q.bells ≡ Some d). find_passes (is_bell b.consumer b.list) q.bells d old)
-            (earlier_is b (find (is_bell b.consumer b.list) q.bells) d e))
-        sound.bells_apart;
-    bells_fit = all-alter (RingsIn q.lists q.consumers) (is_bell b.consumer b.list) (earlier b) q.bells sound.bells_fit
-        (λ d e. ⊎_elim
-            (λ (new : d ≡ b). subst (RingsIn q.lists q.consumers) (sym new) (record { consumer = consumer; list = list }))
-            (λ (old : find (is_bell b.consumer b.list) q.bells ≡ Some d). all-find (RingsIn q.lists q.consumers) (is_bell b.consumer b.list) q.bells d sound.bells_fit old)
-            (earlier_is b (find (is_bell b.consumer b.list) q.bells) d e));
-    small = sound.small }
+  rows_apart = sound.rows_apart;
+  rows_fit = sound.rows_fit;
+  reserved_apart = sound.reserved_apart;
+  reserved_sized = sound.reserved_sized;
+  bells_apart = apart-alter same_bell (is_bell b.consumer b.list) (earlier b) q.bells (bell_splits b.consumer b.list) (bell_joins b.consumer b.list)
+      (λ d e. ⊎_elim
+      (λ (new : d ≡ b). bell_from_key b.consumer b.list d (ap (λ (a : ring.Bell). a.consumer) new) (ap (λ (a : ring.Bell). a.list) new))
+      (λ (old : find (is_bell b.consumer b.list) q.bells ≡ Some d). find_passes (is_bell b.consumer b.list) q.bells d old)
+      (earlier_is b (find (is_bell b.consumer b.list) q.bells) d e))
+      sound.bells_apart;
+  bells_fit = all-alter (RingsIn q.lists q.consumers) (is_bell b.consumer b.list) (earlier b) q.bells sound.bells_fit
+      (λ d e. ⊎_elim
+      (λ (new : d ≡ b). subst (RingsIn q.lists q.consumers) (sym new) (record { consumer = consumer; list = list }))
+      (λ (old : find (is_bell b.consumer b.list) q.bells ≡ Some d). all-find (RingsIn q.lists q.consumers) (is_bell b.consumer b.list) q.bells d sound.bells_fit old)
+      (earlier_is b (find (is_bell b.consumer b.list) q.bells) d e));
+  small = sound.small;
+}
 
 -- without some bells
 pub sound_taking : (q : Queue) (t : ring.Bell → Bool) → Sound q → Sound (record q { bells = filter t q.bells })
 sound_taking q t sound = record {
-    rows_apart = sound.rows_apart;
-    rows_fit = sound.rows_fit;
-    reserved_apart = sound.reserved_apart;
-    reserved_sized = sound.reserved_sized;
-    bells_apart = apart-filter same_bell t q.bells sound.bells_apart;
-    bells_fit = all-filter (RingsIn q.lists q.consumers) t q.bells sound.bells_fit;
-    small = sound.small }
+  rows_apart = sound.rows_apart;
+  rows_fit = sound.rows_fit;
+  reserved_apart = sound.reserved_apart;
+  reserved_sized = sound.reserved_sized;
+  bells_apart = apart-filter same_bell t q.bells sound.bells_apart;
+  bells_fit = all-filter (RingsIn q.lists q.consumers) t q.bells sound.bells_fit;
+  small = sound.small;
+}
 
 -- Steps
 
@@ -220,7 +227,7 @@ sound_step q h (GiveBack size) can sound = sound_giving q h size sound can (omeg
 sound_step q h (Enq r slip content origin n) can sound =
     let mid : Sound (giving_back q h slip.size) = sound_giving q h slip.size sound can.reserved (omega (arith, (depth_giving q h slip.size can.reserved).0, sound.small)) in
     sound_appending (giving_back q h slip.size) (record { number = r; slip = slip; state = Available; content = content; origin = origin; count = n }) mid can.new
-        (record { size = can.size; list = can.list; mask = can.mask }) (few_kept q h (Enq r slip content origin n) can tt sound)
+    (record { size = can.size; list = can.list; mask = can.mask }) (few_kept q h (Enq r slip content origin n) can tt sound)
 sound_step q h (Bell r c) can sound =
     let list : list_at q r < q.lists = subst (λ (l : ℕ). l < q.lists) (sym (list_found q r can.0.0 can.0.1)) (row_fits q r can.0.0 sound can.0.1).list in
     sound_ringing q (record { consumer = c; list = list_at q r; place = place_at q r; row = r }) sound can.1 list
@@ -243,10 +250,11 @@ sum_entries (x ∷ xs) = omega (arith, sum_by-cons row_entries x xs, row_entries
 -- what a queue may begin with is sound
 pub sound_opening : (q : Queue) → IsOpening q → Sound q
 sound_opening q opening = record {
-    rows_apart = opening.rows_apart;
-    rows_fit = opening.rows_fit;
-    reserved_apart = subst (Apart same_holder) (sym opening.reserved) tt;
-    reserved_sized = subst (AllByRecursion IsSized) (sym opening.reserved) tt;
-    bells_apart = subst (Apart same_bell) (sym opening.bells) tt;
-    bells_fit = subst (AllByRecursion (RingsIn q.lists q.consumers)) (sym opening.bells) tt;
-    small = omega (arith, sum_entries q.rows, opening.few, ap (λ (vs : List Reservation). sum_by (λ (v : Reservation). v.entries) vs) opening.reserved) }
+  rows_apart = opening.rows_apart;
+  rows_fit = opening.rows_fit;
+  reserved_apart = subst (Apart same_holder) (sym opening.reserved) tt;
+  reserved_sized = subst (AllByRecursion IsSized) (sym opening.reserved) tt;
+  bells_apart = subst (Apart same_bell) (sym opening.bells) tt;
+  bells_fit = subst (AllByRecursion (RingsIn q.lists q.consumers)) (sym opening.bells) tt;
+  small = omega (arith, sum_entries q.rows, opening.few, ap (λ (vs : List Reservation). sum_by (λ (v : Reservation). v.entries) vs) opening.reserved);
+}

@@ -46,9 +46,9 @@ same_goods_self x = record { number = refl; slip = refl; content = refl; origin 
 row_changed : (q : Queue) (s r : ℕ) (f : Row → Row) (x : Row) → ((z : Row) → SameGoods z (f z)) → row_at q r ≡ Some x → (y : Row) × (row_at (changed q s f) r ≡ Some y) × SameGoods x y
 row_changed q s r f x kept found = ⊎_elim
     (λ (e : s ≡ r).
-        let here : row_at q s ≡ Some x = ap (row_at q) e ∙ found in
-        let number : (f x).number ≡ s = (kept x).number ∙ row_number q s x here in
-        (f x, subst (λ (n : ℕ). row_at (changed q s f) n ≡ Some (f x)) e (row_here q s f x here number), kept x))
+    let here : row_at q s ≡ Some x = ap (row_at q) e ∙ found in
+    let number : (f x).number ≡ s = (kept x).number ∙ row_number q s x here in
+    (f x, subst (λ (n : ℕ). row_at (changed q s f) n ≡ Some (f x)) e (row_here q s f x here number), kept x))
     (λ (other : s ≢ r). (x, row_elsewhere q s r f other (λ z. (kept z).number) ∙ found, same_goods_self x))
     (cases_eq s r)
 
@@ -107,7 +107,7 @@ place_changed q s r l f kept =
 place_appended : (q : Queue) (r : ℕ) (x y : Row) → row_at q r ≡ Some x → position_or_len (is_row r) (filter (is_of_list (list_at q r)) (q.rows ++ y ∷ [])) ≡ position_or_len (is_row r) (rows_of q (list_at q r))
 place_appended q r x y found =
     ap (position_or_len (is_row r)) (filter-append (is_of_list (list_at q r)) q.rows (y ∷ []))
-        ∙ position-append (is_row r) (rows_of q (list_at q r)) (filter (is_of_list (list_at q r)) (y ∷ [])) x (found_in_list q r x found)
+    ∙ position-append (is_row r) (rows_of q (list_at q r)) (filter (is_of_list (list_at q r)) (y ∷ [])) x (found_in_list q r x found)
 
 -- a row's place in its list is not moved by a step
 place_in_step : (q : Queue) (h : ℕ) (a : Act) (r : ℕ) (x : Row) → row_at q r ≡ Some x → position_or_len (is_row r) (rows_of (acted q h a) (list_at q r)) ≡ place_at q r
@@ -187,13 +187,13 @@ held_stays q ds h r none legal held = (held.0, held_row_stays q ds h r held.0 no
 reserving_other : (q : Queue) (k h size : ℕ) → k ≢ h → reserved_by (reserving q k size) h ≡ reserved_by q h
 reserving_other q k h size other =
     ap (λ (o : Option Reservation). unwrap_or o (nothing h))
-        (reserved_alter_other k h (more k size) q.reserved other (λ v e. more_holder k size (find (is_holder k) q.reserved) v (reserved_holder q k) e))
+    (reserved_alter_other k h (more k size) q.reserved other (λ v e. more_holder k size (find (is_holder k) q.reserved) v (reserved_holder q k) e))
 
 giving_other : (q : Queue) (k h size : ℕ) → k ≢ h → reserved_by (giving_back q k size) h ≡ reserved_by q h
 giving_other q k h size other =
     ap (λ (o : Option Reservation). unwrap_or o (nothing h))
-        (reserved_alter_other k h (less size) q.reserved other
-            (λ v e. let u = less_some size (find (is_holder k) q.reserved) v e in ap (λ (w : Reservation). w.holder) u.3 ∙ reserved_holder q k u.0 u.1))
+    (reserved_alter_other k h (less size) q.reserved other
+    (λ v e. let u = less_some size (find (is_holder k) q.reserved) v e in ap (λ (w : Reservation). w.holder) u.3 ∙ reserved_holder q k u.0 u.1))
 
 -- what a caller has reserved is left as it is by each step of another
 pub reserved_step : (q : Queue) (k h : ℕ) (a : Act) → k ≢ h → reserved_by (acted q k a) h ≡ reserved_by q h
@@ -244,8 +244,8 @@ deleted_stays q (d ∷ ds) r legal gone = deleted_stays (acted q d.caller d.act)
 dequeued_del : (q : Queue) (s r : ℕ) (x : Row) → row_at q r ≡ Some x → x.state ≡ Dequeued → IsIn (changed q s (in_state Deleted)) r Dequeued ⊎ IsIn (changed q s (in_state Deleted)) r Deleted
 dequeued_del q s r x found out = ⊎_elim
     (λ (e : s ≡ r).
-        let here : row_at q s ≡ Some x = ap (row_at q) e ∙ found in
-        inr (in_state Deleted x, subst (λ (n : ℕ). row_at (changed q s (in_state Deleted)) n ≡ Some (in_state Deleted x)) e (row_here q s (in_state Deleted) x here (row_number q s x here)), refl))
+    let here : row_at q s ≡ Some x = ap (row_at q) e ∙ found in
+    inr (in_state Deleted x, subst (λ (n : ℕ). row_at (changed q s (in_state Deleted)) n ≡ Some (in_state Deleted x)) e (row_here q s (in_state Deleted) x here (row_number q s x here)), refl))
     (λ (other : s ≢ r). inl (x, untouched q s r (in_state Deleted) x other (λ z. refl) found, out))
     (cases_eq s r)
 

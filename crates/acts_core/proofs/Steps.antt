@@ -10,9 +10,10 @@ use Rattle.acts_core.specs.declared.queues.Bell as ring
 use Rattle.acts_core.specs.declared.queues.Reservation.{Reservation}
 use Rattle.acts_core.specs.declared.rows.Row.{Row}
 use Rattle.acts_core.specs.Keyed.{alter}
-use Rattle.acts_core.specs.State.{is_holder, is_bell, list_at, place_at, size_at, row_at, entries}
+use Rattle.acts_core.specs.State.{is_row, is_holder, is_bell, list_at, place_at, size_at, row_at, entries}
 use Rattle.acts_core.specs.Table.{Can, acted, earlier, most_bytes, most_entries}
 use Rattle.acts_core.specs.Sound.{Sound, IsSized, FitsQueue}
+use Rattle.acts_core.proofs.KeyedLemmas.{all-find}
 use Rattle.acts_core.proofs.SoundSteps.{sound_step}
 
 pub can_at : (q now : Queue) (h : ℕ) (a b : Act) → q ≡ now → b ≡ a → Can now h b → Can q h a
@@ -20,17 +21,6 @@ can_at q now h a b same is can = subst (λ (p : Queue). Can p h a) (sym same) (s
 
 pub kept : (q now : Queue) (h : ℕ) (a b : Act) (new : Queue) → q ≡ now → b ≡ a → Can now h b → Sound q → new ≡ acted q h a → Sound new
 kept q now h a b new same is can sound e = subst Sound (sym e) (sound_step q h a (can_at q now h a b same is can) sound)
-
--- what holds of each element holds of the one that was found
-all_found : {X : Type 0} (P : X → Type 0) (p : X → Bool) (xs : List X) (x : X) → AllByRecursion P xs → find p xs ≡ Some x → P x
-all_found P p [] x all e = absurd (cc)
-all_found P p (y ∷ ys) x all e = by_test (p y) (λ t. ap (λ b. cond b (Some y) (find p ys)) t) refl_of (all_found P p ys x all.1)
-  where
-    refl_of : p y ≡ p y
-    refl_of = λ i. p y
-    by_test : (b : Bool) → (p y ≡ b → cond (p y) (Some y) (find p ys) ≡ cond b (Some y) (find p ys)) → p y ≡ b → (find p ys ≡ Some x → P x) → P x
-    by_test true at t rest = let s : Some y ≡ Some x = sym (at t) ∙ e in let same : y ≡ x = cc in subst P same all.0
-    by_test false at t rest = rest (sym (at t) ∙ e)
 
 -- a part is at most the sum
 part-le-sum : {X : Type 0} (w : X → ℕ) (p : X → Bool) (xs : List X) (x : X) → find p xs ≡ Some x → w x ≤ sum_by w xs
@@ -44,7 +34,7 @@ part-le-sum w p (y ∷ ys) x e = by_test (p y) (λ t. ap (λ b. cond b (Some y) 
 -- one more entry of a message's size fits what a caller has reserved
 pub more_fits : (q : Queue) (h size : ℕ) → Sound q → size ≤ most_bytes → (v : Reservation) → find (is_holder h) q.reserved ≡ Some v → (v.entries + 1 < 2 ^ 64) × (v.bytes + size < 2 ^ 64)
 more_fits q h size sound small v e =
-    let sized : IsSized v = all_found IsSized (is_holder h) q.reserved v sound.reserved_sized e in
+    let sized : IsSized v = all-find IsSized (is_holder h) q.reserved v sound.reserved_sized e in
     let few : v.entries ≤ sum_by (λ (w : Reservation). w.entries) q.reserved = part-le-sum (λ (w : Reservation). w.entries) (is_holder h) q.reserved v e in
     (omega (arith, sound.small), omega (arith, sound.small, sized.bytes))
 
@@ -53,7 +43,7 @@ size_fits q r sound = by_row (row_at q r) (λ i. row_at q r)
   where
     by_row : (o : Option Row) → row_at q r ≡ o → option_map_or (λ (x : Row). x.slip.size) o 0 ≤ most_bytes
     by_row None e = omega arith
-    by_row (Some x) e = (all_found (FitsQueue q.lists q.consumers) _ q.rows x sound.rows_fit e).size
+    by_row (Some x) e = (all-find (FitsQueue q.lists q.consumers) (is_row r) q.rows x sound.rows_fit e).size
 
 -- ringing for a row is the act
 pub rung : (q : Queue) (h r c : ℕ) (bell : ring.Bell) (new : List ring.Bell) → bell ≡ record { consumer = c; list = list_at q r; place = place_at q r; row = r } → new ≡ alter (is_bell bell.consumer bell.list) (earlier bell) q.bells → record q { bells = new } ≡ acted q h (Bell r c)

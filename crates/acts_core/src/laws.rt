@@ -10,8 +10,7 @@ pub fn histories()
     ensures own_append { OwnAppend }
     ensures own_mine { OwnMine }
     ensures own_other { OwnOther }
-{
-}
+{}
 
 /// Prefixes of histories.
 pub fn prefixes()
@@ -24,8 +23,7 @@ pub fn prefixes()
     ensures legal { LegalPrefix }
     ensures own_between { OwnBetween }
     ensures seen_all { SeenAll }
-{
-}
+{}
 
 /// Rows and reservations are found by their keys.
 pub fn keyed()
@@ -41,8 +39,7 @@ pub fn keyed()
     ensures reserved_alter { ReservedAlter }
     ensures reserved_alter_other { ReservedAlterOther }
     ensures reserved_sum { ReservedSum }
-{
-}
+{}
 
 /// What each act does to the depth.
 pub fn depths()
@@ -50,16 +47,14 @@ pub fn depths()
     ensures give_back { DepthGiveBack }
     ensures kept { DepthKept }
     ensures low { DepthLow }
-{
-}
+{}
 
 /// What an opening leads to stays sound.
 pub fn soundness()
     ensures opening { SoundOpening }
     ensures step { SoundStep }
     ensures after { SoundAfter }
-{
-}
+{}
 
 /// What steps leave as it is.
 pub fn stays()
@@ -82,8 +77,7 @@ pub fn stays()
     ensures gone_stays { GoneStays }
     ensures bell_step { BellStep }
     ensures bell_stays { BellStays }
-{
-}
+{}
 
 /// What a caller's own acts do.
 pub fn own_acts()
@@ -103,19 +97,16 @@ pub fn own_acts()
     ensures last { OwnEnqueuedLast }
     ensures rung { BellRung }
     ensures taken { BellTaken }
-{
-}
+{}
 
 /// Which rows a caller holds after a call of its own, whatever others do.
 pub fn locks()
     ensures stays { LockStays }
     ensures gains { Gains }
     ensures acquires { Acquires }
-{
-}
+{}
 
 /// Of two rows of a queue one comes first.
 pub fn order()
     ensures total { PrecedesTotal }
-{
-}
+{}

@@ -18,7 +18,7 @@ use Rattle.acts_core.specs.Table.{Can, CanGive, CanEnqueue, acted, in_state, lef
 use Rattle.acts_core.specs.History.{Does, Legal, after, deeds_of, deed}
 use Rattle.plain_queue.specs.Calls.{put_acts, take_acts, release_acts, ack_acts, plain_slip, is_available, is_locked_by}
 use Rattle.acts_core.specs.Sound.{Sound}
-use Rattle.plain_queue.proofs.Stub.{sound_after}
+use Rattle.acts_core.proofs.SoundSteps.{sound_after}
 use Rattle.plain_queue.specs.Rows.{one_list, NumberedFrom, Keeps}
 use Rattle.plain_queue.proofs.Numbered.{found_by_number, changed_by_number, next_is_new, numbered_set, numbered_push}
 

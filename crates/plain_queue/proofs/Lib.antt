@@ -1,4 +1,3 @@
 pub mod Numbered
 pub mod Doings
-pub mod Stub
 pub mod Answered

@@ -4,7 +4,7 @@ use Rattle.acts_core.specs.declared.rows.Row.{Row}
 use Rattle.acts_core.specs.declared.queues.Queue.{Queue}
 use Rattle.acts_core.specs.State.{entries}
 use Rattle.plain_queue.specs.Rows.{one_list}
-use Rattle.plain_queue.proofs.Stub.{depth_low}
+use Rattle.acts_core.proofs.Depths.{depth_low}
 use Rattle.plain_queue.proofs.Doings.{put_does, new_row, keeps_put}
 use Rattle.plain_queue.proofs.PlainQueue.put.Goals as goal
 

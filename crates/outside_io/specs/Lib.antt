@@ -1,0 +1,5 @@
+pub mod Told
+pub mod Says
+pub mod Counts
+pub mod Memory
+pub mod Adapter
