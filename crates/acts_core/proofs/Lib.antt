@@ -5,5 +5,6 @@ pub mod SoundSteps
 pub mod Stable
 pub mod Bells
 pub mod Owns
+pub mod Orders
 pub mod Histories
 pub mod Prefixes
