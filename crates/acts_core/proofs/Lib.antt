@@ -6,6 +6,7 @@ pub mod SoundSteps
 pub mod Stable
 pub mod Bells
 pub mod Owns
+pub mod Orders
 pub mod Histories
 pub mod Prefixes
 pub mod Steps

@@ -15,7 +15,7 @@ use Rattle.acts_core.specs.Keyed.{alter}
 use Rattle.acts_core.specs.State.{is_row, row_at, IsIn, rows_of, list_at, place_at, size_at, is_holder, reserved_by, bell_at, entries, bytes}
 use Rattle.acts_core.specs.Table.{Can, acted, changed, earlier, most_bytes}
 use Rattle.acts_core.specs.History.{after, Legal, own, deeds_of}
-use Rattle.acts_core.specs.Order.{Order, Precedes}
+use Rattle.acts_core.specs.Order.{Order, arrival, Precedes, IsOlder}
 use Rattle.acts_core.specs.Sound.{Sound, IsOpening}
 
 -- Histories
@@ -347,7 +347,36 @@ Gains = (o : Queue) (s0 s1 : List Deed) (h r : ℕ) (a : Act) → IsPrefix s0 s1
 abbrev pub Acquires : Type 0
 Acquires = (o : Queue) (s0 s1 : List Deed) (h r : ℕ) → IsPrefix s0 s1 → Legal o s1 → own h s1 ≡ own h s0 ++ deeds_of h (Acq r ∷ []) → IsIn (after o s1) r (Locked h) × ((x : ℕ) → IsIn (after o s0) x (Locked h) → x ≢ r)
 
--- Queue order
+-- Queue order, and oldest order
 
+-- of two rows of a queue one comes before the other
 abbrev pub PrecedesTotal : Type 0
 PrecedesTotal = (o : Order) (q : Queue) (x y : Row) → row_at q x.number ≡ Some x → row_at q y.number ≡ Some y → x.number ≢ y.number → Precedes o q x y ⊎ Precedes o q y x
+
+-- no row comes before itself
+abbrev pub PrecedesNot : Type 0
+PrecedesNot = (o : Order) (q : Queue) (x : Row) → Precedes o q x x → ⊥
+
+-- what comes before the second comes before the third
+abbrev pub PrecedesTrans : Type 0
+PrecedesTrans = (o : Order) (q : Queue) (x y z : Row) → Precedes o q x y → Precedes o q y z → Precedes o q x z
+
+-- of two rows of a queue one is older
+abbrev pub OlderTotal : Type 0
+OlderTotal = (o : Order) (q : Queue) (x y : Row) → row_at q x.number ≡ Some x → row_at q y.number ≡ Some y → x.number ≢ y.number → IsOlder o q x y ⊎ IsOlder o q y x
+
+-- no row is older than itself
+abbrev pub OlderNot : Type 0
+OlderNot = (o : Order) (q : Queue) (x : Row) → IsOlder o q x x → ⊥
+
+-- what is older than the second is older than the third
+abbrev pub OlderTrans : Type 0
+OlderTrans = (o : Order) (q : Queue) (x y z : Row) → IsOlder o q x y → IsOlder o q y z → IsOlder o q x z
+
+-- two rows that came at one time are one row
+abbrev pub ArrivalSame : Type 0
+ArrivalSame = (q : Queue) (x y : Row) → row_at q x.number ≡ Some x → row_at q y.number ≡ Some y → arrival q x ≡ arrival q y → x ≡ y
+
+-- two rows at one place of one list are one row
+abbrev pub PlaceSame : Type 0
+PlaceSame = (q : Queue) (r s : ℕ) (x y : Row) → row_at q r ≡ Some x → row_at q s ≡ Some y → x.slip.list ≡ y.slip.list → place_at q r ≡ place_at q s → x ≡ y

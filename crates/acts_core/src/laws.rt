@@ -1,5 +1,5 @@
 //! Laws of histories, on which every crate above rests. Each is the contract of a function with no body.
-ghost use Rattle.acts_core.specs.Laws.{AfterAppend, LegalAppend, LegalFront, LegalRest, OwnAppend, OwnMine, OwnOther, PrefixSelf, PrefixMore, PrefixTrans, PrefixShorter, PrefixWhole, PrefixLength, LegalPrefix, OwnBetween, SeenAll, RowAlter, RowAlterOther, RowSum, RowAppend, RowPush, RowPushOther, RowNumber, RowHere, RowElsewhere, ReservedAlter, ReservedAlterOther, ReservedSum, DepthReserve, DepthGiveBack, DepthKept, DepthLow, PrecedesTotal, SoundOpening, SoundStep, SoundAfter, RowStep, RowStays, NewStays, ListStep, ListStays, PlaceStep, PlaceStays, HeldRowStep, HeldRowStays, HeldStep, HeldStays, ReservedStep, ReservedStays, DeletedStep, DeletedStays, GoneStep, GoneStays, BellStep, BellStays, OwnAcquired, OwnLocked, OwnStolen, OwnUnlocked, OwnReleased, OwnDequeued, OwnDeleted, ReservedHolder, OwnReserve, OwnDequeue, OwnGiveBack, OwnEnqueue, OwnEnqueued, OwnEnqueuedLast, BellRung, BellTaken, LockStays, Gains, Acquires};
+ghost use Rattle.acts_core.specs.Laws.{AfterAppend, LegalAppend, LegalFront, LegalRest, OwnAppend, OwnMine, OwnOther, PrefixSelf, PrefixMore, PrefixTrans, PrefixShorter, PrefixWhole, PrefixLength, LegalPrefix, OwnBetween, SeenAll, RowAlter, RowAlterOther, RowSum, RowAppend, RowPush, RowPushOther, RowNumber, RowHere, RowElsewhere, ReservedAlter, ReservedAlterOther, ReservedSum, DepthReserve, DepthGiveBack, DepthKept, DepthLow, SoundOpening, SoundStep, SoundAfter, RowStep, RowStays, NewStays, ListStep, ListStays, PlaceStep, PlaceStays, HeldRowStep, HeldRowStays, HeldStep, HeldStays, ReservedStep, ReservedStays, DeletedStep, DeletedStays, GoneStep, GoneStays, BellStep, BellStays, OwnAcquired, OwnLocked, OwnStolen, OwnUnlocked, OwnReleased, OwnDequeued, OwnDeleted, ReservedHolder, OwnReserve, OwnDequeue, OwnGiveBack, OwnEnqueue, OwnEnqueued, OwnEnqueuedLast, BellRung, BellTaken, LockStays, Gains, Acquires, PrecedesTotal, PrecedesNot, PrecedesTrans, OlderTotal, OlderNot, OlderTrans, ArrivalSame, PlaceSame};
 
 /// Histories one after the other.
 pub fn histories()
@@ -109,4 +109,11 @@ pub fn locks()
 /// Of two rows of a queue one comes first.
 pub fn order()
     ensures total { PrecedesTotal }
+    ensures itself { PrecedesNot }
+    ensures trans { PrecedesTrans }
+    ensures older_total { OlderTotal }
+    ensures older_itself { OlderNot }
+    ensures older_trans { OlderTrans }
+    ensures arrival { ArrivalSame }
+    ensures place { PlaceSame }
 {}
