@@ -1,0 +1,13 @@
+-- the codes that the process ends with
+use Rattle.std.specs.Prelude.{ℕ}
+use Rattle.broker_top.specs.declared.status.Status.{Status}
+use Rattle.broker_top.specs.declared.status.Status.TheVariants.{Done, InputRefused, WordsRefused, ReadFault, WriteFault, NoMemory}
+
+-- 5 and 7 are kept for faults of a disk and of a journal
+abbrev pub status_code : Status → ℕ
+status_code Done = 0
+status_code InputRefused = 1
+status_code WordsRefused = 2
+status_code ReadFault = 3
+status_code WriteFault = 4
+status_code NoMemory = 6

@@ -1,0 +1,12 @@
+-- reading the whole input, up to its limit
+use Rattle.std.specs.Prelude.{◌≡◌, ℕ, ◌+◌, ◌<◌, ◌≤◌, Option, List, length, ⊤}
+use Rattle.outside_io.specs.Told.{Takes, AtEnd}
+use Rattle.broker_top.specs.declared.input.Input.{Input}
+use Rattle.broker_top.specs.declared.input.Input.TheVariants.{Whole, TooLarge, Fault, NoMemory}
+
+-- What was read of a source: all of it; one byte more than the limit; or the source failed.
+abbrev pub ReadsInput : ℕ → Input → Option (List ℕ) → Option (List ℕ) → ℕ → ℕ → Type 0
+ReadsInput limit (Whole bytes) left left' faults faults' = Takes left left' bytes.items × AtEnd left' × (length bytes.items ≤ limit)
+ReadsInput limit TooLarge left left' faults faults' = (front : List ℕ) × Takes left left' front × (length front ≡ limit + 1)
+ReadsInput limit Fault left left' faults faults' = faults < faults'
+ReadsInput limit NoMemory left left' faults faults' = ⊤

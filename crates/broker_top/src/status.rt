@@ -1,0 +1,36 @@
+//! How a run of the program ends.
+ghost use Rattle.std.specs.Prelude.{◌≡◌};
+ghost use Rattle.broker_top.specs.Codes.{status_code};
+
+/// The status that the program ends with. docs/SCRIPT.md, "Statuses", says when each comes.
+#[derive(Clone, Copy, Debug, PartialEq, Eq)]
+pub enum Status {
+    /// The input was read to its end and all was done.
+    Done,
+    /// The input is too large, or a line of it is refused.
+    InputRefused,
+    /// The words of the command line are not the program's.
+    WordsRefused,
+    /// The source failed.
+    ReadFault,
+    /// The sink failed.
+    WriteFault,
+    /// Memory ran out.
+    NoMemory,
+}
+
+impl Status {
+    /// The code that the process ends with.
+    pub fn code(self) -> u8
+        ensures { result ≡ status_code self }
+    {
+        match self {
+            Status::Done => 0,
+            Status::InputRefused => 1,
+            Status::WordsRefused => 2,
+            Status::ReadFault => 3,
+            Status::WriteFault => 4,
+            Status::NoMemory => 6,
+        }
+    }
+}
