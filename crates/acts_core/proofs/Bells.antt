@@ -1,5 +1,5 @@
 -- what steps do to bells
-use Rattle.std.proofs.Common.{◌≡◌, ◌≢◌, ◌⊎◌, ℕ, Bool, true, false, not, nat_lt, Option, Some, None, List, [], ◌∷◌, filter, find, refl, sym, ap, ◌∙◌, ⊎_elim}
+use Rattle.std.proofs.Common.{◌≡◌, ◌≢◌, ℕ, true, false, not, nat_lt, Option, Some, None, List, [], ◌∷◌, refl, sym, ap, ◌∙◌, ⊎_elim}
 use Rattle.std.proofs.lemmas.Bool.{cases_Bool, cond-true, cond-false, not_from_false}
 use Rattle.acts_core.specs.declared.deeds.Act.{Act}
 use Rattle.acts_core.specs.declared.deeds.Act.TheVariants.{Acq, Lock, Unlock, Steal, Rel, Deq, Del, Reserve, GiveBack, Enq, Bell, Take}
@@ -17,9 +17,9 @@ use Rattle.acts_core.proofs.SoundSteps.{bell_key, bell_from_key, earlier_is}
 pub other_bell : (d m c l : ℕ) (b : ring.Bell) → (d ≡ c → m ≢ l) → is_bell d m b ≡ true → is_bell c l b ≡ false
 other_bell d m c l b other here = ⊎_elim
     (λ (both : is_bell c l b ≡ true).
-        let s = bell_key d m b here in
-        let t = bell_key c l b both in
-        absurd (other (sym s.0 ∙ t.0) (sym s.1 ∙ t.1)))
+    let s = bell_key d m b here in
+    let t = bell_key c l b both in
+    absurd (other (sym s.0 ∙ t.0) (sym s.1 ∙ t.1)))
     (λ (out : is_bell c l b ≡ false). out)
     (cases_Bool (is_bell c l b))
 
@@ -52,12 +52,13 @@ bell_step q h (GiveBack size) c l leaves = refl
 bell_step q h (Enq s slip content origin n) c l leaves = refl
 bell_step q h (Bell s d) c l leaves =
     find-alter_other (is_bell d (list_at q s)) (is_bell c l) (earlier (record { consumer = d; list = list_at q s; place = place_at q s; row = s })) q.bells
-        (λ b here. other_bell d (list_at q s) c l b leaves here)
-        (λ b e. other_bell d (list_at q s) c l b leaves (earlier_here q (record { consumer = d; list = list_at q s; place = place_at q s; row = s }) b e))
+    (λ b here. other_bell d (list_at q s) c l b leaves here)
+    (λ b e. other_bell d (list_at q s) c l b leaves (earlier_here q (record { consumer = d; list = list_at q s; place = place_at q s; row = s }) b e))
 bell_step q h (Take d m) c l leaves =
     find-filter_other (is_bell c l) (λ b. not (is_bell d m b)) q.bells
-        (λ b here. not_from_false (is_bell d m b) (other_bell c l d m b (λ e f. leaves (sym e) (sym f)) here))
+    (λ b here. not_from_false (is_bell d m b) (other_bell c l d m b (λ e f. leaves (sym e) (sym f)) here))
 
+-- the same of a history
 pub bell_stays : (q : Queue) (ds : List Deed) (c l : ℕ) → LeaveBell q c l ds → bell_at (after q ds) c l ≡ bell_at q c l
 bell_stays q [] c l leave = refl
 bell_stays q (d ∷ ds) c l leave = bell_stays (acted q d.caller d.act) ds c l leave.1 ∙ bell_step q d.caller d.act c l leave.0

@@ -1,5 +1,5 @@
 -- what a step does to the depth
-use Rattle.std.proofs.Common.{◌≡◌, ◌≢◌, ℕ, ◌+◌, ◌-◌, ◌*◌, ◌<◌, ◌≤◌, Bool, true, false, Option, Some, None, List, [], ◌∷◌, ◌++◌, find, sum_by, option_map, if◌then◌else◌, refl, sym, ap, ap₂, ◌∙◌, ⊎_elim, arith}
+use Rattle.std.proofs.Common.{◌≡◌, ◌≢◌, ℕ, ◌+◌, ◌*◌, ◌≤◌, Bool, true, false, Option, Some, None, find, sum_by, option_map, if◌then◌else◌, refl, sym, ap, ap₂, ◌∙◌, ⊎_elim, arith}
 use Rattle.std.proofs.lemmas.Bool.{cases_eq}
 use Rattle.std.proofs.lemmas.List.Sums.{sum_by_push}
 use Rattle.std.specs.Option.{option_map_or, unwrap_or}
@@ -29,9 +29,11 @@ changed_sum w q r f x found =
     let new : option_map_or w (option_map f (row_at q r)) 0 ≡ w (f x) = ap (λ (o : Option Row). option_map_or w (option_map f o) 0) found in
     omega (arith, sum-alter w (is_row r) (option_map f) q.rows)
 
+-- a row that counts as before has the entries of before
 same_entries : (x y : Row) → counts y.state ≡ counts x.state → row_entries y ≡ row_entries x
 same_entries x y e = ap (λ (b : Bool). if b then 1 else 0) e
 
+-- and its bytes
 same_bytes : (x y : Row) → y.slip.size ≡ x.slip.size → counts y.state ≡ counts x.state → row_bytes y ≡ row_bytes x
 same_bytes x y s e = ap₂ (λ (b : Bool) (n : ℕ). if b then n else 0) e s
 
@@ -44,9 +46,11 @@ depth_changed q r f x found size count =
 pub size_found : (q : Queue) (r : ℕ) (x : Row) → row_at q r ≡ Some x → size_at q r ≡ x.slip.size
 size_found q r x found = ap (λ (o : Option Row). option_map_or (λ (y : Row). y.slip.size) o 0) found
 
+-- a row that counts is one entry
 counts_entries : (x : Row) → counts x.state ≡ true → row_entries x ≡ 1
 counts_entries x e = ap (λ (b : Bool). if b then 1 else 0) e
 
+-- of its size
 counts_bytes : (x : Row) → counts x.state ≡ true → row_bytes x ≡ x.slip.size
 counts_bytes x e = ap (λ (b : Bool). if b then x.slip.size else 0) e
 
@@ -59,36 +63,41 @@ depth_dequeued q r x found count =
 
 -- Reservations
 
+-- one entry more
 more_entries : (h size : ℕ) (o : Option Reservation) → option_map_or (λ (v : Reservation). v.entries) (more h size o) 0 ≡ option_map_or (λ (v : Reservation). v.entries) o 0 + 1
 more_entries h size None = omega arith
 more_entries h size (Some v) = refl
 
+-- and its bytes
 more_bytes : (h size : ℕ) (o : Option Reservation) → option_map_or (λ (v : Reservation). v.bytes) (more h size o) 0 ≡ option_map_or (λ (v : Reservation). v.bytes) o 0 + size
 more_bytes h size None = omega arith
 more_bytes h size (Some v) = refl
 
 -- a reservation adds its entry and its bytes
 pub depth_reserving : (q : Queue) (h size : ℕ) → (entries (reserving q h size) ≡ entries q + 1) × (bytes (reserving q h size) ≡ bytes q + size)
-depth_reserving q h size =
-    (omega (arith, sum-alter (λ (v : Reservation). v.entries) (is_holder h) (more h size) q.reserved, more_entries h size (find (is_holder h) q.reserved))
-    , omega (arith, sum-alter (λ (v : Reservation). v.bytes) (is_holder h) (more h size) q.reserved, more_bytes h size (find (is_holder h) q.reserved)))
+depth_reserving q h size = (
+  omega (arith, sum-alter (λ (v : Reservation). v.entries) (is_holder h) (more h size) q.reserved, more_entries h size (find (is_holder h) q.reserved)),
+  omega (arith, sum-alter (λ (v : Reservation). v.bytes) (is_holder h) (more h size) q.reserved, more_bytes h size (find (is_holder h) q.reserved)),
+)
 
+-- one entry less, and its bytes
 less_weights : (h size : ℕ) (o : Option Reservation) → CanGive (unwrap_or o (nothing h)) size
     → (option_map_or (λ (v : Reservation). v.entries) (less size o) 0 + 1 ≡ option_map_or (λ (v : Reservation). v.entries) o 0) × (option_map_or (λ (v : Reservation). v.bytes) (less size o) 0 + size ≡ option_map_or (λ (v : Reservation). v.bytes) o 0)
 less_weights h size None can = absurd (omega (arith, can.entry))
 less_weights h size (Some v) can = ⊎_elim
     (λ (last : v.entries ≡ 1).
-        rw (less_last size v last) (omega arith, omega (arith, can.bytes, can.rest)))
+    rw (less_last size v last) (omega arith, omega (arith, can.bytes, can.rest)))
     (λ (many : v.entries ≢ 1).
-        rw (less_more size v many) (omega (arith, can.entry), omega (arith, can.bytes)))
+    rw (less_more size v many) (omega (arith, can.entry), omega (arith, can.bytes)))
     (cases_eq v.entries 1)
 
 -- what is given back takes its entry and its bytes out
 pub depth_giving : (q : Queue) (h size : ℕ) → CanGive (reserved_by q h) size → (entries (giving_back q h size) + 1 ≡ entries q) × (bytes (giving_back q h size) + size ≡ bytes q)
 depth_giving q h size can =
-    let w = less_weights h size (find (is_holder h) q.reserved) can in
-    (omega (arith, sum-alter (λ (v : Reservation). v.entries) (is_holder h) (less size) q.reserved, w.0)
-    , omega (arith, sum-alter (λ (v : Reservation). v.bytes) (is_holder h) (less size) q.reserved, w.1))
+    let w = less_weights h size (find (is_holder h) q.reserved) can in (
+      omega (arith, sum-alter (λ (v : Reservation). v.entries) (is_holder h) (less size) q.reserved, w.0),
+      omega (arith, sum-alter (λ (v : Reservation). v.bytes) (is_holder h) (less size) q.reserved, w.1),
+    )
 
 -- a new row that counts adds its entry and its bytes
 pub depth_appending : (q : Queue) (x : Row) → counts x.state ≡ true → (entries (appending q x) ≡ entries q + 1) × (bytes (appending q x) ≡ bytes q + x.slip.size)
@@ -118,6 +127,7 @@ depth_kept q h (Enq r slip content origin n) can keeps =
 depth_kept q h (Bell r c) can keeps = (refl, refl)
 depth_kept q h (Take c l) can keeps = (refl, refl)
 
+-- a row has at most the bytes of the largest message
 row_low : (x : Row) → x.slip.size ≤ most_bytes → row_bytes x ≤ most_bytes * row_entries x
 row_low x small = elim (counts x.state) as (λ b. (if b then x.slip.size else 0) ≤ most_bytes * (if b then 1 else 0)) [ true ↦ omega arith | false ↦ omega arith ]
 
@@ -125,7 +135,7 @@ row_low x small = elim (counts x.state) as (λ b. (if b then x.slip.size else 0)
 pub depth_low : (q : Queue) → Sound q → bytes q ≤ most_bytes * entries q
 depth_low q sound =
     let rows : sum_by row_bytes q.rows ≤ most_bytes * sum_by row_entries q.rows =
-        sum_by-le-times row_bytes row_entries most_bytes q.rows (all-weaker (FitsQueue q.lists q.consumers) (λ (x : Row). row_bytes x ≤ most_bytes * row_entries x) q.rows (λ x fit. row_low x fit.size) sound.rows_fit) in
+    sum_by-le-times row_bytes row_entries most_bytes q.rows (all-weaker (FitsQueue q.lists q.consumers) (λ (x : Row). row_bytes x ≤ most_bytes * row_entries x) q.rows (λ x fit. row_low x fit.size) sound.rows_fit) in
     let kept : sum_by (λ (v : Reservation). v.bytes) q.reserved ≤ most_bytes * sum_by (λ (v : Reservation). v.entries) q.reserved =
-        sum_by-le-times (λ (v : Reservation). v.bytes) (λ (v : Reservation). v.entries) most_bytes q.reserved (all-weaker IsSized (λ (v : Reservation). v.bytes ≤ most_bytes * v.entries) q.reserved (λ v sized. sized.bytes) sound.reserved_sized) in
+    sum_by-le-times (λ (v : Reservation). v.bytes) (λ (v : Reservation). v.entries) most_bytes q.reserved (all-weaker IsSized (λ (v : Reservation). v.bytes ≤ most_bytes * v.entries) q.reserved (λ v sized. sized.bytes) sound.reserved_sized) in
     omega (arith, rows, kept)

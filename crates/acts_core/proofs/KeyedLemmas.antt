@@ -1,6 +1,6 @@
 -- lists in which an element is found by a test
 use Rattle.std.proofs.Common.{◌≡◌, ℕ, ◌+◌, ◌*◌, ◌≤◌, Bool, true, false, not, cond, Option, Some, None, List, [], ◌∷◌, ◌++◌, length, filter, find, sum_by, option_map, option_to_list, refl, sym, ap, ◌∙◌, subst, ⊎_elim, mul-add, arith}
-use Rattle.std.proofs.lemmas.Bool.{cases_Bool, cond-true, cond-false, both_ways}
+use Rattle.std.proofs.lemmas.Bool.{cases_Bool, cond-true, cond-false}
 use Rattle.std.proofs.lemmas.List.Sums.{sum_by-cons, sum_by-append}
 use Rattle.std.specs.List.{position_or_len, AllByRecursion}
 use Rattle.std.specs.Option.{option_map_or}
@@ -70,12 +70,12 @@ module _ {X : Type 0} where
   find-filter p t [] y e passes = absurd (cc)
   find-filter p t (x ∷ xs) y e passes = ⊎_elim
       (λ (hit : p x ≡ true).
-          let same : Some x ≡ Some y = sym (find-here p x xs hit) ∙ e in
-          let s : x ≡ y = cc in
-          ap (find p) (cond-true (t x) (x ∷ filter t xs) (filter t xs) (ap t s ∙ passes)) ∙ find-here p x (filter t xs) hit ∙ same)
+      let same : Some x ≡ Some y = sym (find-here p x xs hit) ∙ e in
+      let s : x ≡ y = cc in
+      ap (find p) (cond-true (t x) (x ∷ filter t xs) (filter t xs) (ap t s ∙ passes)) ∙ find-here p x (filter t xs) hit ∙ same)
       (λ (miss : p x ≡ false).
-          let rest : find p (filter t xs) ≡ Some y = find-filter p t xs y (sym (find-past p x xs miss) ∙ e) passes in
-          elim (t x) as (λ b. find p (cond b (x ∷ filter t xs) (filter t xs)) ≡ Some y) [ true ↦ find-past p x (filter t xs) miss ∙ rest | false ↦ rest ])
+      let rest : find p (filter t xs) ≡ Some y = find-filter p t xs y (sym (find-past p x xs miss) ∙ e) passes in
+      elim (t x) as (λ b. find p (cond b (x ∷ filter t xs) (filter t xs)) ≡ Some y) [ true ↦ find-past p x (filter t xs) miss ∙ rest | false ↦ rest ])
       (cases_Bool (p x))
 
   -- nothing is found among fewer elements
@@ -90,13 +90,13 @@ module _ {X : Type 0} where
   find-filter_other p t [] stays = refl
   find-filter_other p t (x ∷ xs) stays = ⊎_elim
       (λ (hit : p x ≡ true).
-          ap (find p) (cond-true (t x) (x ∷ filter t xs) (filter t xs) (stays x hit)) ∙ find-here p x (filter t xs) hit ∙ sym (find-here p x xs hit))
+      ap (find p) (cond-true (t x) (x ∷ filter t xs) (filter t xs) (stays x hit)) ∙ find-here p x (filter t xs) hit ∙ sym (find-here p x xs hit))
       (λ (miss : p x ≡ false).
-          let rest : find p (filter t xs) ≡ find p xs = find-filter_other p t xs stays in
-          elim (t x) as (λ b. find p (cond b (x ∷ filter t xs) (filter t xs)) ≡ find p (x ∷ xs)) [
-              true ↦ find-past p x (filter t xs) miss ∙ rest ∙ sym (find-past p x xs miss)
-            | false ↦ rest ∙ sym (find-past p x xs miss)
-          ])
+      let rest : find p (filter t xs) ≡ find p xs = find-filter_other p t xs stays in
+      elim (t x) as (λ b. find p (cond b (x ∷ filter t xs) (filter t xs)) ≡ find p (x ∷ xs)) [
+        | true ↦ find-past p x (filter t xs) miss ∙ rest ∙ sym (find-past p x xs miss)
+        | false ↦ rest ∙ sym (find-past p x xs miss)
+      ])
       (cases_Bool (p x))
 
   -- nothing is found where what passes is left out
@@ -105,8 +105,8 @@ module _ {X : Type 0} where
   find-filter_not p (x ∷ xs) = ⊎_elim
       (λ (hit : p x ≡ true). ap (λ (b : Bool). find p (cond (not b) (x ∷ filter (λ z. not (p z)) xs) (filter (λ z. not (p z)) xs))) hit ∙ find-filter_not p xs)
       (λ (miss : p x ≡ false).
-          ap (λ (b : Bool). find p (cond (not b) (x ∷ filter (λ z. not (p z)) xs) (filter (λ z. not (p z)) xs))) miss
-              ∙ find-past p x (filter (λ z. not (p z)) xs) miss ∙ find-filter_not p xs)
+      ap (λ (b : Bool). find p (cond (not b) (x ∷ filter (λ z. not (p z)) xs) (filter (λ z. not (p z)) xs))) miss
+      ∙ find-past p x (filter (λ z. not (p z)) xs) miss ∙ find-filter_not p xs)
       (cases_Bool (p x))
 
   -- What a change leaves
@@ -119,10 +119,22 @@ module _ {X : Type 0} where
   pub alter-past : (p : X → Bool) (f : Option X → Option X) (x : X) (xs : List X) → p x ≡ false → alter p f (x ∷ xs) ≡ x ∷ alter p f xs
   alter-past p f x xs miss = cond-false (p x) (option_to_list (f (Some x)) ++ xs) (x ∷ alter p f xs) miss
 
+  -- where nothing is found what a change makes stands at the end
+  pub alter-push : (p : X → Bool) (f : Option X → Option X) (xs : List X) (y : X) → find p xs ≡ None → f None ≡ Some y → alter p f xs ≡ xs ++ y ∷ []
+  alter-push p f [] y none e = ap (λ (o : Option X). option_to_list o) e
+  alter-push p f (x ∷ xs) y none e = alter-past p f x xs (find_none-head p x xs none) ∙ ap (λ (l : List X). x ∷ l) (alter-push p f xs y (find_none-tail p x xs none) e)
+
+  -- and nothing changes where it makes nothing
+  pub alter-none : (p : X → Bool) (f : Option X → Option X) (xs : List X) → find p xs ≡ None → f None ≡ None → alter p f xs ≡ xs
+  alter-none p f [] none e = ap (λ (o : Option X). option_to_list o) e
+  alter-none p f (x ∷ xs) none e = alter-past p f x xs (find_none-head p x xs none) ∙ ap (λ (l : List X). x ∷ l) (alter-none p f xs (find_none-tail p x xs none) e)
+
+  -- what fails at the front is passed
   find-option : (q : X → Bool) (o : Option X) (xs : List X) → ((y : X) → o ≡ Some y → q y ≡ false) → find q (option_to_list o ++ xs) ≡ find q xs
   find-option q None xs fails = refl
   find-option q (Some y) xs fails = find-past q y xs (fails y refl)
 
+  -- or alone finds nothing
   find-option_alone : (q : X → Bool) (o : Option X) → ((y : X) → o ≡ Some y → q y ≡ false) → find q (option_to_list o) ≡ None
   find-option_alone q None fails = refl
   find-option_alone q (Some y) fails = find-past q y [] (fails y refl)
@@ -132,9 +144,9 @@ module _ {X : Type 0} where
   find-alter p f [] y e passes = ap (λ (o : Option X). find p (option_to_list o)) e ∙ find-here p y [] passes
   find-alter p f (x ∷ xs) y e passes = ⊎_elim
       (λ (hit : p x ≡ true).
-          ap (find p) (alter-here p f x xs hit) ∙ ap (λ (o : Option X). find p (option_to_list o ++ xs)) (ap f (sym (find-here p x xs hit)) ∙ e) ∙ find-here p y xs passes)
+      ap (find p) (alter-here p f x xs hit) ∙ ap (λ (o : Option X). find p (option_to_list o ++ xs)) (ap f (sym (find-here p x xs hit)) ∙ e) ∙ find-here p y xs passes)
       (λ (miss : p x ≡ false).
-          ap (find p) (alter-past p f x xs miss) ∙ find-past p x (alter p f xs) miss ∙ find-alter p f xs y (ap f (sym (find-past p x xs miss)) ∙ e) passes)
+      ap (find p) (alter-past p f x xs miss) ∙ find-past p x (alter p f xs) miss ∙ find-alter p f xs y (ap f (sym (find-past p x xs miss)) ∙ e) passes)
       (cases_Bool (p x))
 
   -- what a change takes out is found no more, if no two elements that pass are apart
@@ -142,10 +154,10 @@ module _ {X : Type 0} where
   find-alter_gone same p f [] tells apart e = ap (λ (o : Option X). find p (option_to_list o)) e
   find-alter_gone same p f (x ∷ xs) tells apart e = ⊎_elim
       (λ (hit : p x ≡ true).
-          ap (find p) (alter-here p f x xs hit) ∙ ap (λ (o : Option X). find p (option_to_list o ++ xs)) (ap f (sym (find-here p x xs hit)) ∙ e)
-              ∙ find_none-weaker p (same x) xs (λ z. tells x z hit) apart.0)
+      ap (find p) (alter-here p f x xs hit) ∙ ap (λ (o : Option X). find p (option_to_list o ++ xs)) (ap f (sym (find-here p x xs hit)) ∙ e)
+      ∙ find_none-weaker p (same x) xs (λ z. tells x z hit) apart.0)
       (λ (miss : p x ≡ false).
-          ap (find p) (alter-past p f x xs miss) ∙ find-past p x (alter p f xs) miss ∙ find-alter_gone same p f xs tells apart.1 (ap f (sym (find-past p x xs miss)) ∙ e))
+      ap (find p) (alter-past p f x xs miss) ∙ find-past p x (alter p f xs) miss ∙ find-alter_gone same p f xs tells apart.1 (ap f (sym (find-past p x xs miss)) ∙ e))
       (cases_Bool (p x))
 
   -- a test that passes neither what is changed nor what it becomes finds what it found
@@ -153,9 +165,9 @@ module _ {X : Type 0} where
   find-alter_other p q f [] other fails = find-option_alone q (f None) fails
   find-alter_other p q f (x ∷ xs) other fails = ⊎_elim
       (λ (hit : p x ≡ true).
-          ap (find q) (alter-here p f x xs hit) ∙ find-option q (f (Some x)) xs (λ y e. fails y (ap f (find-here p x xs hit) ∙ e)) ∙ sym (find-past q x xs (other x hit)))
+      ap (find q) (alter-here p f x xs hit) ∙ find-option q (f (Some x)) xs (λ y e. fails y (ap f (find-here p x xs hit) ∙ e)) ∙ sym (find-past q x xs (other x hit)))
       (λ (miss : p x ≡ false).
-          ap (find q) (alter-past p f x xs miss) ∙ ap (λ (o : Option X). cond (q x) (Some x) o) (find-alter_other p q f xs other (λ y e. fails y (ap f (find-past p x xs miss) ∙ e))))
+      ap (find q) (alter-past p f x xs miss) ∙ ap (λ (o : Option X). cond (q x) (Some x) o) (find-alter_other p q f xs other (λ y e. fails y (ap f (find-past p x xs miss) ∙ e))))
       (cases_Bool (p x))
 
   -- a test that finds nothing, and does not pass what the change makes, finds nothing afterwards
@@ -163,14 +175,15 @@ module _ {X : Type 0} where
   find_none-alter p q f [] none fails = find-option_alone q (f None) fails
   find_none-alter p q f (x ∷ xs) none fails = ⊎_elim
       (λ (hit : p x ≡ true).
-          ap (find q) (alter-here p f x xs hit) ∙ find-option q (f (Some x)) xs (λ y e. fails y (ap f (find-here p x xs hit) ∙ e)) ∙ find_none-tail q x xs none)
+      ap (find q) (alter-here p f x xs hit) ∙ find-option q (f (Some x)) xs (λ y e. fails y (ap f (find-here p x xs hit) ∙ e)) ∙ find_none-tail q x xs none)
       (λ (miss : p x ≡ false).
-          ap (find q) (alter-past p f x xs miss)
-              ∙ find_none-cons q x (alter p f xs) (find_none-head q x xs none) (find_none-alter p q f xs (find_none-tail q x xs none) (λ y e. fails y (ap f (find-past p x xs miss) ∙ e))))
+      ap (find q) (alter-past p f x xs miss)
+      ∙ find_none-cons q x (alter p f xs) (find_none-head q x xs none) (find_none-alter p q f xs (find_none-tail q x xs none) (λ y e. fails y (ap f (find-past p x xs miss) ∙ e))))
       (cases_Bool (p x))
 
   -- Sums
 
+  -- the sum over what is there
   sum-option : (w : X → ℕ) (o : Option X) → sum_by w (option_to_list o) ≡ option_map_or w o 0
   sum-option w None = refl
   sum-option w (Some x) = omega (arith, sum_by-cons w x [])
@@ -180,7 +193,7 @@ module _ {X : Type 0} where
   sum-alter w p f [] = omega (arith, sum-option w (f None))
   sum-alter w p f (x ∷ xs) =
       elim (p x) as (λ b. sum_by w (cond b (option_to_list (f (Some x)) ++ xs) (x ∷ alter p f xs)) + option_map_or w (cond b (Some x) (find p xs)) 0 ≡ sum_by w (x ∷ xs) + option_map_or w (f (cond b (Some x) (find p xs))) 0) [
-          true ↦ omega (arith, sum_by-append w (option_to_list (f (Some x))) xs, sum-option w (f (Some x)), sum_by-cons w x xs)
+        | true ↦ omega (arith, sum_by-append w (option_to_list (f (Some x))) xs, sum-option w (f (Some x)), sum_by-cons w x xs)
         | false ↦ omega (arith, sum_by-cons w x (alter p f xs), sum_by-cons w x xs, sum-alter w p f xs)
       ]
 
@@ -201,10 +214,12 @@ module _ {X : Type 0} where
       (λ (miss : p x ≡ false). all-find P p xs y each.1 (sym (find-past p x xs miss) ∙ e))
       (cases_Bool (p x))
 
+  -- what holds of what is there and of the rest holds of all
   all-option : (P : X → Type 0) (o : Option X) (xs : List X) → ((y : X) → o ≡ Some y → P y) → AllByRecursion P xs → AllByRecursion P (option_to_list o ++ xs)
   all-option P None xs made each = each
   all-option P (Some y) xs made each = (made y refl, each)
 
+  -- and of it alone
   all-option_alone : (P : X → Type 0) (o : Option X) → ((y : X) → o ≡ Some y → P y) → AllByRecursion P (option_to_list o)
   all-option_alone P None made = tt
   all-option_alone P (Some y) made = (made y refl, tt)
@@ -217,26 +232,31 @@ module _ {X : Type 0} where
       (λ (miss : p x ≡ false). subst (AllByRecursion P) (sym (alter-past p f x xs miss)) (each.0, all-alter P p f xs each.1 (λ y e. made y (ap f (find-past p x xs miss) ∙ e))))
       (cases_Bool (p x))
 
+  -- and of one more at the end
   pub all-push : (P : X → Type 0) (xs : List X) (y : X) → AllByRecursion P xs → P y → AllByRecursion P (xs ++ y ∷ [])
   all-push P [] y each here = (here, tt)
   all-push P (x ∷ xs) y each here = (each.0, all-push P xs y each.1 here)
 
+  -- and of fewer
   pub all-filter : (P : X → Type 0) (t : X → Bool) (xs : List X) → AllByRecursion P xs → AllByRecursion P (filter t xs)
   all-filter P t [] each = tt
   all-filter P t (x ∷ xs) each =
       let rest : AllByRecursion P (filter t xs) = all-filter P t xs each.1 in
       elim (t x) as (λ b. AllByRecursion P (cond b (x ∷ filter t xs) (filter t xs))) [ true ↦ (each.0, rest) | false ↦ rest ]
 
+  -- what follows from it holds too
   pub all-weaker : (P Q : X → Type 0) (xs : List X) → ((x : X) → P x → Q x) → AllByRecursion P xs → AllByRecursion Q xs
   all-weaker P Q [] weaker each = tt
   all-weaker P Q (x ∷ xs) weaker each = (weaker x each.0, all-weaker P Q xs weaker each.1)
 
   -- Elements that are apart
 
+  -- one element is apart
   apart-option_alone : (same : X → X → Bool) (o : Option X) → Apart same (option_to_list o)
   apart-option_alone same None = tt
   apart-option_alone same (Some y) = (refl, tt)
 
+  -- one in front that finds none of the rest is apart from them
   apart-option : (same : X → X → Bool) (o : Option X) (xs : List X) → ((y : X) → o ≡ Some y → find (same y) xs ≡ None) → Apart same xs → Apart same (option_to_list o ++ xs)
   apart-option same None xs none apart = apart
   apart-option same (Some y) xs none apart = (none y refl, apart)
@@ -250,12 +270,12 @@ module _ {X : Type 0} where
   apart-alter same p f [] splits joins passes apart = apart-option_alone same (f None)
   apart-alter same p f (x ∷ xs) splits joins passes apart = ⊎_elim
       (λ (hit : p x ≡ true).
-          subst (Apart same) (sym (alter-here p f x xs hit))
-              (apart-option same (f (Some x)) xs (λ y e. find_none-weaker (same y) (same x) xs (λ z. joins x y z hit (passes y (ap f (find-here p x xs hit) ∙ e))) apart.0) apart.1))
+      subst (Apart same) (sym (alter-here p f x xs hit))
+      (apart-option same (f (Some x)) xs (λ y e. find_none-weaker (same y) (same x) xs (λ z. joins x y z hit (passes y (ap f (find-here p x xs hit) ∙ e))) apart.0) apart.1))
       (λ (miss : p x ≡ false).
-          let still : (y : X) → f (find p xs) ≡ Some y → p y ≡ true = λ y e. passes y (ap f (find-past p x xs miss) ∙ e) in
-          subst (Apart same) (sym (alter-past p f x xs miss))
-              (find_none-alter p (same x) f xs apart.0 (λ y e. splits x y miss (still y e)), apart-alter same p f xs splits joins still apart.1))
+      let still : (y : X) → f (find p xs) ≡ Some y → p y ≡ true = λ y e. passes y (ap f (find-past p x xs miss) ∙ e) in
+      subst (Apart same) (sym (alter-past p f x xs miss))
+      (find_none-alter p (same x) f xs apart.0 (λ y e. splits x y miss (still y e)), apart-alter same p f xs splits joins still apart.1))
       (cases_Bool (p x))
 
   -- a new element at the end is apart from the others where its test found nothing
@@ -273,9 +293,11 @@ module _ {X : Type 0} where
 
   -- Places
 
+  -- the first element passes
   pub position-here : (p : X → Bool) (x : X) (xs : List X) → p x ≡ true → position_or_len p (x ∷ xs) ≡ 0
   position-here p x xs hit = ap (λ (b : Bool). cond (not b) (1 + position_or_len p xs) 0) hit
 
+  -- the first element does not pass
   pub position-past : (p : X → Bool) (x : X) (xs : List X) → p x ≡ false → position_or_len p (x ∷ xs) ≡ 1 + position_or_len p xs
   position-past p x xs miss = ap (λ (b : Bool). cond (not b) (1 + position_or_len p xs) 0) miss
 
@@ -285,7 +307,7 @@ module _ {X : Type 0} where
   position-append p (x ∷ xs) ys y e = ⊎_elim
       (λ (hit : p x ≡ true). position-here p x (xs ++ ys) hit ∙ sym (position-here p x xs hit))
       (λ (miss : p x ≡ false).
-          position-past p x (xs ++ ys) miss ∙ ap (λ (n : ℕ). 1 + n) (position-append p xs ys y (sym (find-past p x xs miss) ∙ e)) ∙ sym (position-past p x xs miss))
+      position-past p x (xs ++ ys) miss ∙ ap (λ (n : ℕ). 1 + n) (position-append p xs ys y (sym (find-past p x xs miss) ∙ e)) ∙ sym (position-past p x xs miss))
       (cases_Bool (p x))
 
   -- a new element at the end has the last place where none passed before
@@ -300,17 +322,17 @@ module _ {X : Type 0} where
   position-same p q [] y z e f same = absurd (cc)
   position-same p q (x ∷ xs) y z e f same = ⊎_elim
       (λ (hit : p x ≡ true). ⊎_elim
-          (λ (also : q x ≡ true).
-              let a : Some x ≡ Some y = sym (find-here p x xs hit) ∙ e in
-              let b : Some x ≡ Some z = sym (find-here q x xs also) ∙ f in
-              cc)
-          (λ (miss : q x ≡ false). absurd (omega (arith, position-here p x xs hit, position-past q x xs miss)))
-          (cases_Bool (q x)))
+      (λ (also : q x ≡ true).
+      let a : Some x ≡ Some y = sym (find-here p x xs hit) ∙ e in
+      let b : Some x ≡ Some z = sym (find-here q x xs also) ∙ f in
+      cc)
+      (λ (miss : q x ≡ false). absurd (omega (arith, position-here p x xs hit, position-past q x xs miss)))
+      (cases_Bool (q x)))
       (λ (miss : p x ≡ false). ⊎_elim
-          (λ (hit : q x ≡ true). absurd (omega (arith, position-past p x xs miss, position-here q x xs hit)))
-          (λ (nor : q x ≡ false).
-              position-same p q xs y z (sym (find-past p x xs miss) ∙ e) (sym (find-past q x xs nor) ∙ f) (omega (arith, position-past p x xs miss, position-past q x xs nor)))
-          (cases_Bool (q x)))
+      (λ (hit : q x ≡ true). absurd (omega (arith, position-past p x xs miss, position-here q x xs hit)))
+      (λ (nor : q x ≡ false).
+      position-same p q xs y z (sym (find-past p x xs miss) ∙ e) (sym (find-past q x xs nor) ∙ f) (omega (arith, position-past p x xs miss, position-past q x xs nor)))
+      (cases_Bool (q x)))
       (cases_Bool (p x))
 
   -- a change that no test sees leaves each place as it is
@@ -318,7 +340,7 @@ module _ {X : Type 0} where
   position-alter p q g [] blind = refl
   position-alter p q g (x ∷ xs) blind =
       elim (p x) as (λ b. position_or_len q (cond b (g x ∷ xs) (x ∷ alter p (option_map g) xs)) ≡ position_or_len q (x ∷ xs)) [
-          true ↦ ap (λ (b : Bool). cond (not b) (1 + position_or_len q xs) 0) (blind x)
+        | true ↦ ap (λ (b : Bool). cond (not b) (1 + position_or_len q xs) 0) (blind x)
         | false ↦ ap (λ (n : ℕ). cond (not (q x)) (1 + n) 0) (position-alter p q g xs blind)
       ]
 
@@ -328,15 +350,15 @@ module _ {X : Type 0} where
   position-filter_alter p q t g (x ∷ xs) blind kept =
       let rest : position_or_len q (filter t (alter p (option_map g) xs)) ≡ position_or_len q (filter t xs) = position-filter_alter p q t g xs blind kept in
       elim (p x) as (λ b. position_or_len q (filter t (cond b (g x ∷ xs) (x ∷ alter p (option_map g) xs))) ≡ position_or_len q (filter t (x ∷ xs))) [
-          true ↦
-              ap (λ (b : Bool). position_or_len q (cond b (g x ∷ filter t xs) (filter t xs))) (kept x)
-                  ∙ elim (t x) as (λ b. position_or_len q (cond b (g x ∷ filter t xs) (filter t xs)) ≡ position_or_len q (cond b (x ∷ filter t xs) (filter t xs))) [
-                      true ↦ ap (λ (b : Bool). cond (not b) (1 + position_or_len q (filter t xs)) 0) (blind x)
-                    | false ↦ refl
-                  ]
+        | true ↦
+            ap (λ (b : Bool). position_or_len q (cond b (g x ∷ filter t xs) (filter t xs))) (kept x)
+            ∙ elim (t x) as (λ b. position_or_len q (cond b (g x ∷ filter t xs) (filter t xs)) ≡ position_or_len q (cond b (x ∷ filter t xs) (filter t xs))) [
+              | true ↦ ap (λ (b : Bool). cond (not b) (1 + position_or_len q (filter t xs)) 0) (blind x)
+              | false ↦ refl
+            ]
         | false ↦
-              elim (t x) as (λ b. position_or_len q (cond b (x ∷ filter t (alter p (option_map g) xs)) (filter t (alter p (option_map g) xs))) ≡ position_or_len q (cond b (x ∷ filter t xs) (filter t xs))) [
-                  true ↦ ap (λ (n : ℕ). cond (not (q x)) (1 + n) 0) rest
-                | false ↦ rest
-              ]
+            elim (t x) as (λ b. position_or_len q (cond b (x ∷ filter t (alter p (option_map g) xs)) (filter t (alter p (option_map g) xs))) ≡ position_or_len q (cond b (x ∷ filter t xs) (filter t xs))) [
+              | true ↦ ap (λ (n : ℕ). cond (not (q x)) (1 + n) 0) rest
+              | false ↦ rest
+            ]
       ]

@@ -1,5 +1,5 @@
 //! Laws of histories, on which every crate above rests. Each is the contract of a function with no body.
-ghost use Rattle.acts_core.specs.Laws.{AfterAppend, LegalAppend, LegalFront, LegalRest, OwnAppend, OwnMine, OwnOther, PrefixSelf, PrefixMore, PrefixTrans, PrefixShorter, PrefixWhole, PrefixLength, LegalPrefix, OwnBetween, SeenAll, RowAlter, RowAlterOther, RowSum, RowAppend, RowPush, RowPushOther, RowNumber, RowHere, RowElsewhere, ReservedAlter, ReservedAlterOther, ReservedSum, DepthReserve, DepthGiveBack, DepthKept, DepthLow, SoundOpening, SoundStep, SoundAfter, RowStep, RowStays, NewStays, ListStep, ListStays, PlaceStep, PlaceStays, HeldRowStep, HeldRowStays, HeldStep, HeldStays, ReservedStep, ReservedStays, DeletedStep, DeletedStays, GoneStep, GoneStays, BellStep, BellStays, OwnAcquired, OwnLocked, OwnStolen, OwnUnlocked, OwnReleased, OwnDequeued, OwnDeleted, ReservedHolder, OwnReserve, OwnDequeue, OwnGiveBack, OwnEnqueue, OwnEnqueued, OwnEnqueuedLast, BellRung, BellTaken, LockStays, Gains, Acquires, PrecedesTotal, PrecedesNot, PrecedesTrans, OlderTotal, OlderNot, OlderTrans, ArrivalSame, PlaceSame};
+ghost use Rattle.acts_core.specs.Laws.{AfterAppend, LegalAppend, LegalFront, LegalRest, OwnAppend, OwnMine, OwnOther, PrefixSelf, PrefixMore, PrefixTrans, PrefixShorter, PrefixWhole, PrefixLength, LegalPrefix, OwnBetween, SeenAll, RowAlter, RowAlterOther, RowSum, RowAppend, RowPush, RowPushOther, RowNumber, RowHere, RowElsewhere, ReservedAlter, ReservedAlterOther, ReservedPush, ReservedPushOther, ReservedSum, DepthReserve, DepthGiveBack, DepthKept, DepthLow, SoundOpening, SoundStep, SoundAfter, RowStep, RowStays, NewStep, NewStays, ListStep, ListStays, PlaceStep, PlaceStays, HeldRowStep, HeldRowStays, HeldStep, HeldStays, ReservedStep, ReservedStays, DeletedStep, DeletedStays, GoneStep, GoneStays, BellStep, BellStays, OwnAcquired, OwnLocked, OwnStolen, OwnUnlocked, OwnReleased, OwnDequeued, OwnDeleted, ReservedHolder, OwnReserve, OwnDequeue, OwnGiveBack, OwnEnqueue, OwnEnqueued, OwnEnqueuedLast, BellRung, BellTaken, LockStays, Gains, Acquires, PrecedesTotal, PrecedesNot, PrecedesTrans, OlderTotal, OlderNot, OlderTrans, ArrivalSame, PlaceSame};
 
 /// Histories one after the other.
 pub fn histories()
@@ -10,8 +10,7 @@ pub fn histories()
     ensures own_append { OwnAppend }
     ensures own_mine { OwnMine }
     ensures own_other { OwnOther }
-{
-}
+{}
 
 /// Prefixes of histories.
 pub fn prefixes()
@@ -24,8 +23,7 @@ pub fn prefixes()
     ensures legal { LegalPrefix }
     ensures own_between { OwnBetween }
     ensures seen_all { SeenAll }
-{
-}
+{}
 
 /// Rows and reservations are found by their keys.
 pub fn keyed()
@@ -40,9 +38,10 @@ pub fn keyed()
     ensures row_elsewhere { RowElsewhere }
     ensures reserved_alter { ReservedAlter }
     ensures reserved_alter_other { ReservedAlterOther }
+    ensures reserved_push { ReservedPush }
+    ensures reserved_push_other { ReservedPushOther }
     ensures reserved_sum { ReservedSum }
-{
-}
+{}
 
 /// What each act does to the depth.
 pub fn depths()
@@ -50,21 +49,20 @@ pub fn depths()
     ensures give_back { DepthGiveBack }
     ensures kept { DepthKept }
     ensures low { DepthLow }
-{
-}
+{}
 
 /// What an opening leads to stays sound.
 pub fn soundness()
     ensures opening { SoundOpening }
     ensures step { SoundStep }
     ensures after { SoundAfter }
-{
-}
+{}
 
 /// What steps leave as it is.
 pub fn stays()
     ensures row_step { RowStep }
     ensures row_stays { RowStays }
+    ensures new_step { NewStep }
     ensures new_stays { NewStays }
     ensures list_step { ListStep }
     ensures list_stays { ListStays }
@@ -82,8 +80,7 @@ pub fn stays()
     ensures gone_stays { GoneStays }
     ensures bell_step { BellStep }
     ensures bell_stays { BellStays }
-{
-}
+{}
 
 /// What a caller's own acts do.
 pub fn own_acts()
@@ -103,16 +100,14 @@ pub fn own_acts()
     ensures last { OwnEnqueuedLast }
     ensures rung { BellRung }
     ensures taken { BellTaken }
-{
-}
+{}
 
 /// Which rows a caller holds after a call of its own, whatever others do.
 pub fn locks()
     ensures stays { LockStays }
     ensures gains { Gains }
     ensures acquires { Acquires }
-{
-}
+{}
 
 /// Of two rows of a queue one comes first.
 pub fn order()
@@ -124,5 +119,4 @@ pub fn order()
     ensures older_trans { OlderTrans }
     ensures arrival { ArrivalSame }
     ensures place { PlaceSame }
-{
-}
+{}
