@@ -184,7 +184,7 @@ SoundAfter = (q : Queue) (ds : List Deed) → Sound q → Legal q ds → Sound (
 
 -- What stays
 
--- two rows of one number with the same slip, content and origin
+-- the same number, slip, content and origin
 pub record SameGoods (x y : Row) : Type 0 where
   pub number : y.number ≡ x.number
   pub slip : y.slip ≡ x.slip
@@ -324,7 +324,7 @@ with_more v size = record v { entries = v.entries + 1; bytes = v.bytes + size }
 abbrev pub with_less : Reservation → ℕ → Reservation
 with_less v size = record v { entries = v.entries - 1; bytes = v.bytes - size }
 
--- a caller's reservation after one of its own
+-- a caller's reservation after it reserved more
 abbrev pub OwnReserve : Type 0
 OwnReserve = (q : Queue) (h size : ℕ) → reserved_by (acted q h (Reserve size)) h ≡ with_more (reserved_by q h) size
 
@@ -332,7 +332,7 @@ OwnReserve = (q : Queue) (h size : ℕ) → reserved_by (acted q h (Reserve size
 abbrev pub OwnDequeue : Type 0
 OwnDequeue = (q : Queue) (h r : ℕ) → reserved_by (acted q h (Deq r)) h ≡ with_more (reserved_by q h) (size_at q r)
 
--- and after it gave some back; in a sound state no second record of the caller shows
+-- a caller's reservation after it gave some back; a sound state has no second record of the caller that could show
 abbrev pub OwnGiveBack : Type 0
 OwnGiveBack = (q : Queue) (h size : ℕ) → Sound q → Can q h (GiveBack size) → reserved_by (acted q h (GiveBack size)) h ≡ with_less (reserved_by q h) size
 
@@ -381,7 +381,7 @@ LockStays = (o : Queue) (s0 s1 : List Deed) (h r : ℕ) (acts : List Act) → Is
 abbrev pub Gains : Type 0
 Gains = (o : Queue) (s0 s1 : List Deed) (h r : ℕ) (a : Act) → IsPrefix s0 s1 → Legal o s1 → own h s1 ≡ own h s0 ++ deeds_of h (a ∷ []) → GainsLock r a → IsIn (after o s1) r (Locked h) × ((x : ℕ) → IsIn (after o s0) x (Locked h) → x ≢ r)
 
--- as where it acquires an available row
+-- a caller whose one new act acquires an available row
 abbrev pub Acquires : Type 0
 Acquires = (o : Queue) (s0 s1 : List Deed) (h r : ℕ) → IsPrefix s0 s1 → Legal o s1 → own h s1 ≡ own h s0 ++ deeds_of h (Acq r ∷ []) → IsIn (after o s1) r (Locked h) × ((x : ℕ) → IsIn (after o s0) x (Locked h) → x ≢ r)
 
