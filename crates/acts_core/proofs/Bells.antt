@@ -1,5 +1,5 @@
 -- what steps do to bells
-use Rattle.std.proofs.Common.{◌≡◌, ◌≢◌, ◌⊎◌, ℕ, Bool, true, false, not, nat_lt, Option, Some, None, List, [], ◌∷◌, filter, find, refl, sym, ap, ◌∙◌, ⊎_elim}
+use Rattle.std.proofs.Common.{◌≡◌, ◌≢◌, ℕ, true, false, not, nat_lt, Option, Some, None, List, [], ◌∷◌, refl, sym, ap, ◌∙◌, ⊎_elim}
 use Rattle.std.proofs.lemmas.Bool.{cases_Bool, cond-true, cond-false, not_from_false}
 use Rattle.acts_core.specs.declared.deeds.Act.{Act}
 use Rattle.acts_core.specs.declared.deeds.Act.TheVariants.{Acq, Lock, Unlock, Steal, Rel, Deq, Del, Reserve, GiveBack, Enq, Bell, Take}
@@ -58,6 +58,7 @@ bell_step q h (Take d m) c l leaves =
     find-filter_other (is_bell c l) (λ b. not (is_bell d m b)) q.bells
     (λ b here. not_from_false (is_bell d m b) (other_bell c l d m b (λ e f. leaves (sym e) (sym f)) here))
 
+-- the same of a history
 pub bell_stays : (q : Queue) (ds : List Deed) (c l : ℕ) → LeaveBell q c l ds → bell_at (after q ds) c l ≡ bell_at q c l
 bell_stays q [] c l leave = refl
 bell_stays q (d ∷ ds) c l leave = bell_stays (acted q d.caller d.act) ds c l leave.1 ∙ bell_step q d.caller d.act c l leave.0

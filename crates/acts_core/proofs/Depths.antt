@@ -1,5 +1,5 @@
 -- what a step does to the depth
-use Rattle.std.proofs.Common.{◌≡◌, ◌≢◌, ℕ, ◌+◌, ◌-◌, ◌*◌, ◌<◌, ◌≤◌, Bool, true, false, Option, Some, None, List, [], ◌∷◌, ◌++◌, find, sum_by, option_map, if◌then◌else◌, refl, sym, ap, ap₂, ◌∙◌, ⊎_elim, arith}
+use Rattle.std.proofs.Common.{◌≡◌, ◌≢◌, ℕ, ◌+◌, ◌*◌, ◌≤◌, Bool, true, false, Option, Some, None, find, sum_by, option_map, if◌then◌else◌, refl, sym, ap, ap₂, ◌∙◌, ⊎_elim, arith}
 use Rattle.std.proofs.lemmas.Bool.{cases_eq}
 use Rattle.std.proofs.lemmas.List.Sums.{sum_by_push}
 use Rattle.std.specs.Option.{option_map_or, unwrap_or}
@@ -29,9 +29,11 @@ changed_sum w q r f x found =
     let new : option_map_or w (option_map f (row_at q r)) 0 ≡ w (f x) = ap (λ (o : Option Row). option_map_or w (option_map f o) 0) found in
     omega (arith, sum-alter w (is_row r) (option_map f) q.rows)
 
+-- a row that counts as before has the entries of before
 same_entries : (x y : Row) → counts y.state ≡ counts x.state → row_entries y ≡ row_entries x
 same_entries x y e = ap (λ (b : Bool). if b then 1 else 0) e
 
+-- and its bytes
 same_bytes : (x y : Row) → y.slip.size ≡ x.slip.size → counts y.state ≡ counts x.state → row_bytes y ≡ row_bytes x
 same_bytes x y s e = ap₂ (λ (b : Bool) (n : ℕ). if b then n else 0) e s
 
@@ -44,9 +46,11 @@ depth_changed q r f x found size count =
 pub size_found : (q : Queue) (r : ℕ) (x : Row) → row_at q r ≡ Some x → size_at q r ≡ x.slip.size
 size_found q r x found = ap (λ (o : Option Row). option_map_or (λ (y : Row). y.slip.size) o 0) found
 
+-- a row that counts is one entry
 counts_entries : (x : Row) → counts x.state ≡ true → row_entries x ≡ 1
 counts_entries x e = ap (λ (b : Bool). if b then 1 else 0) e
 
+-- of its size
 counts_bytes : (x : Row) → counts x.state ≡ true → row_bytes x ≡ x.slip.size
 counts_bytes x e = ap (λ (b : Bool). if b then x.slip.size else 0) e
 
@@ -59,10 +63,12 @@ depth_dequeued q r x found count =
 
 -- Reservations
 
+-- one entry more
 more_entries : (h size : ℕ) (o : Option Reservation) → option_map_or (λ (v : Reservation). v.entries) (more h size o) 0 ≡ option_map_or (λ (v : Reservation). v.entries) o 0 + 1
 more_entries h size None = omega arith
 more_entries h size (Some v) = refl
 
+-- and its bytes
 more_bytes : (h size : ℕ) (o : Option Reservation) → option_map_or (λ (v : Reservation). v.bytes) (more h size o) 0 ≡ option_map_or (λ (v : Reservation). v.bytes) o 0 + size
 more_bytes h size None = omega arith
 more_bytes h size (Some v) = refl
@@ -74,6 +80,7 @@ depth_reserving q h size = (
   omega (arith, sum-alter (λ (v : Reservation). v.bytes) (is_holder h) (more h size) q.reserved, more_bytes h size (find (is_holder h) q.reserved)),
 )
 
+-- one entry less, and its bytes
 less_weights : (h size : ℕ) (o : Option Reservation) → CanGive (unwrap_or o (nothing h)) size
     → (option_map_or (λ (v : Reservation). v.entries) (less size o) 0 + 1 ≡ option_map_or (λ (v : Reservation). v.entries) o 0) × (option_map_or (λ (v : Reservation). v.bytes) (less size o) 0 + size ≡ option_map_or (λ (v : Reservation). v.bytes) o 0)
 less_weights h size None can = absurd (omega (arith, can.entry))
@@ -120,6 +127,7 @@ depth_kept q h (Enq r slip content origin n) can keeps =
 depth_kept q h (Bell r c) can keeps = (refl, refl)
 depth_kept q h (Take c l) can keeps = (refl, refl)
 
+-- a row has at most the bytes of the largest message
 row_low : (x : Row) → x.slip.size ≤ most_bytes → row_bytes x ≤ most_bytes * row_entries x
 row_low x small = elim (counts x.state) as (λ b. (if b then x.slip.size else 0) ≤ most_bytes * (if b then 1 else 0)) [ true ↦ omega arith | false ↦ omega arith ]
 

@@ -1,5 +1,5 @@
 -- histories one after the other
-use Rattle.std.proofs.Common.{◌≡◌, ◌≢◌, ℕ, cond, List, [], ◌∷◌, ◌++◌, refl, eq-eqb, ne_eqb}
+use Rattle.std.proofs.Common.{◌≡◌, ◌≢◌, ℕ, List, [], ◌∷◌, ◌++◌, refl, eq-eqb, ne_eqb}
 use Rattle.std.proofs.lemmas.Bool.{cond-true, cond-false}
 use Rattle.std.proofs.lemmas.List.Elements.{filter-append}
 use Rattle.acts_core.specs.declared.deeds.Deed.{Deed}
@@ -39,8 +39,10 @@ own-cons_mine d ds = cond-true (is_by d.caller d) (d ∷ own d.caller ds) (own d
 pub own-cons_other : (h : ℕ) (d : Deed) (ds : List Deed) → d.caller ≢ h → own h (d ∷ ds) ≡ own h ds
 own-cons_other h d ds other = cond-false (is_by h d) (d ∷ own h ds) (own h ds) (ne_eqb d.caller h other)
 
+-- a deed is its caller's own
 pub own-mine : (d : Deed) → own d.caller (d ∷ []) ≡ d ∷ []
 own-mine d = own-cons_mine d []
 
+-- and no other's
 pub own-other : (h : ℕ) (d : Deed) → d.caller ≢ h → own h (d ∷ []) ≡ []
 own-other h d other = own-cons_other h d [] other

@@ -1,6 +1,6 @@
 -- lists in which an element is found by a test
 use Rattle.std.proofs.Common.{◌≡◌, ℕ, ◌+◌, ◌*◌, ◌≤◌, Bool, true, false, not, cond, Option, Some, None, List, [], ◌∷◌, ◌++◌, length, filter, find, sum_by, option_map, option_to_list, refl, sym, ap, ◌∙◌, subst, ⊎_elim, mul-add, arith}
-use Rattle.std.proofs.lemmas.Bool.{cases_Bool, cond-true, cond-false, both_ways}
+use Rattle.std.proofs.lemmas.Bool.{cases_Bool, cond-true, cond-false}
 use Rattle.std.proofs.lemmas.List.Sums.{sum_by-cons, sum_by-append}
 use Rattle.std.specs.List.{position_or_len, AllByRecursion}
 use Rattle.std.specs.Option.{option_map_or}
@@ -119,10 +119,22 @@ module _ {X : Type 0} where
   pub alter-past : (p : X → Bool) (f : Option X → Option X) (x : X) (xs : List X) → p x ≡ false → alter p f (x ∷ xs) ≡ x ∷ alter p f xs
   alter-past p f x xs miss = cond-false (p x) (option_to_list (f (Some x)) ++ xs) (x ∷ alter p f xs) miss
 
+  -- where nothing is found what a change makes stands at the end
+  pub alter-push : (p : X → Bool) (f : Option X → Option X) (xs : List X) (y : X) → find p xs ≡ None → f None ≡ Some y → alter p f xs ≡ xs ++ y ∷ []
+  alter-push p f [] y none e = ap (λ (o : Option X). option_to_list o) e
+  alter-push p f (x ∷ xs) y none e = alter-past p f x xs (find_none-head p x xs none) ∙ ap (λ (l : List X). x ∷ l) (alter-push p f xs y (find_none-tail p x xs none) e)
+
+  -- and nothing changes where it makes nothing
+  pub alter-none : (p : X → Bool) (f : Option X → Option X) (xs : List X) → find p xs ≡ None → f None ≡ None → alter p f xs ≡ xs
+  alter-none p f [] none e = ap (λ (o : Option X). option_to_list o) e
+  alter-none p f (x ∷ xs) none e = alter-past p f x xs (find_none-head p x xs none) ∙ ap (λ (l : List X). x ∷ l) (alter-none p f xs (find_none-tail p x xs none) e)
+
+  -- what fails at the front is passed
   find-option : (q : X → Bool) (o : Option X) (xs : List X) → ((y : X) → o ≡ Some y → q y ≡ false) → find q (option_to_list o ++ xs) ≡ find q xs
   find-option q None xs fails = refl
   find-option q (Some y) xs fails = find-past q y xs (fails y refl)
 
+  -- or alone finds nothing
   find-option_alone : (q : X → Bool) (o : Option X) → ((y : X) → o ≡ Some y → q y ≡ false) → find q (option_to_list o) ≡ None
   find-option_alone q None fails = refl
   find-option_alone q (Some y) fails = find-past q y [] (fails y refl)
@@ -171,6 +183,7 @@ module _ {X : Type 0} where
 
   -- Sums
 
+  -- the sum over what is there
   sum-option : (w : X → ℕ) (o : Option X) → sum_by w (option_to_list o) ≡ option_map_or w o 0
   sum-option w None = refl
   sum-option w (Some x) = omega (arith, sum_by-cons w x [])
@@ -201,10 +214,12 @@ module _ {X : Type 0} where
       (λ (miss : p x ≡ false). all-find P p xs y each.1 (sym (find-past p x xs miss) ∙ e))
       (cases_Bool (p x))
 
+  -- what holds of what is there and of the rest holds of all
   all-option : (P : X → Type 0) (o : Option X) (xs : List X) → ((y : X) → o ≡ Some y → P y) → AllByRecursion P xs → AllByRecursion P (option_to_list o ++ xs)
   all-option P None xs made each = each
   all-option P (Some y) xs made each = (made y refl, each)
 
+  -- and of it alone
   all-option_alone : (P : X → Type 0) (o : Option X) → ((y : X) → o ≡ Some y → P y) → AllByRecursion P (option_to_list o)
   all-option_alone P None made = tt
   all-option_alone P (Some y) made = (made y refl, tt)
@@ -217,26 +232,31 @@ module _ {X : Type 0} where
       (λ (miss : p x ≡ false). subst (AllByRecursion P) (sym (alter-past p f x xs miss)) (each.0, all-alter P p f xs each.1 (λ y e. made y (ap f (find-past p x xs miss) ∙ e))))
       (cases_Bool (p x))
 
+  -- and of one more at the end
   pub all-push : (P : X → Type 0) (xs : List X) (y : X) → AllByRecursion P xs → P y → AllByRecursion P (xs ++ y ∷ [])
   all-push P [] y each here = (here, tt)
   all-push P (x ∷ xs) y each here = (each.0, all-push P xs y each.1 here)
 
+  -- and of fewer
   pub all-filter : (P : X → Type 0) (t : X → Bool) (xs : List X) → AllByRecursion P xs → AllByRecursion P (filter t xs)
   all-filter P t [] each = tt
   all-filter P t (x ∷ xs) each =
       let rest : AllByRecursion P (filter t xs) = all-filter P t xs each.1 in
       elim (t x) as (λ b. AllByRecursion P (cond b (x ∷ filter t xs) (filter t xs))) [ true ↦ (each.0, rest) | false ↦ rest ]
 
+  -- what follows from it holds too
   pub all-weaker : (P Q : X → Type 0) (xs : List X) → ((x : X) → P x → Q x) → AllByRecursion P xs → AllByRecursion Q xs
   all-weaker P Q [] weaker each = tt
   all-weaker P Q (x ∷ xs) weaker each = (weaker x each.0, all-weaker P Q xs weaker each.1)
 
   -- Elements that are apart
 
+  -- one element is apart
   apart-option_alone : (same : X → X → Bool) (o : Option X) → Apart same (option_to_list o)
   apart-option_alone same None = tt
   apart-option_alone same (Some y) = (refl, tt)
 
+  -- one in front that finds none of the rest is apart from them
   apart-option : (same : X → X → Bool) (o : Option X) (xs : List X) → ((y : X) → o ≡ Some y → find (same y) xs ≡ None) → Apart same xs → Apart same (option_to_list o ++ xs)
   apart-option same None xs none apart = apart
   apart-option same (Some y) xs none apart = (none y refl, apart)
@@ -273,9 +293,11 @@ module _ {X : Type 0} where
 
   -- Places
 
+  -- the first element passes
   pub position-here : (p : X → Bool) (x : X) (xs : List X) → p x ≡ true → position_or_len p (x ∷ xs) ≡ 0
   position-here p x xs hit = ap (λ (b : Bool). cond (not b) (1 + position_or_len p xs) 0) hit
 
+  -- the first element does not pass
   pub position-past : (p : X → Bool) (x : X) (xs : List X) → p x ≡ false → position_or_len p (x ∷ xs) ≡ 1 + position_or_len p xs
   position-past p x xs miss = ap (λ (b : Bool). cond (not b) (1 + position_or_len p xs) 0) miss
 

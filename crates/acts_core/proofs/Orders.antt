@@ -2,7 +2,6 @@
 use Rattle.std.proofs.Common.{◌≡◌, ◌≢◌, ◌⊎◌, inl, inr, ℕ, ◌<◌, Option, Some, None, List, [], ◌∷◌, find, Ordering, Less, Equal, Greater, refl, sym, ap, ap₂, ◌∙◌, subst, ⊎_elim, arith}
 use Rattle.std.proofs.lemmas.Bool.{cases_order}
 use Rattle.std.proofs.lemmas.Cmp.{ranked, tied_itself, nat_list_cmp_total}
-use Rattle.std.specs.Cmp.{IsTotalOrder}
 use Rattle.std.specs.Cmp.Lexicographic.{slice_cmp}
 use Rattle.std.specs.List.{position_or_len}
 use Rattle.std.specs.Ordering.{nat_cmp, MatchOrdering, ordering_then, ordering_reverse}
@@ -30,11 +29,13 @@ arrival_same q x y found also same = position-same (is_row x.number) (is_row y.n
 
 -- Keys
 
+-- what a comparison says where it finds two equal
 rank_equal : (P Q R : Type 0) (o : Ordering) → o ≡ Equal → MatchOrdering o P Q R → Q
 rank_equal P Q R Less e m = absurd (cc)
 rank_equal P Q R Equal e m = m
 rank_equal P Q R Greater e m = absurd (cc)
 
+-- two comparisons in a row find equal where each does
 then_equal : (o p : Ordering) → ordering_then o p ≡ Equal → (o ≡ Equal) × (p ≡ Equal)
 then_equal Less p e = absurd (cc)
 then_equal Equal p e = (refl, e)
@@ -49,6 +50,7 @@ same_key (x ∷ a) (y ∷ b) e =
     let t = then_equal (nat_cmp x y) (slice_cmp nat_cmp a b) e in
     ap₂ (λ (n : ℕ) (c : List ℕ). n ∷ c) (rank_equal (x < y) (x ≡ y) (y < x) (nat_cmp x y) t.0 (ranked x y (nat_cmp x y) refl)) (same_key a b t.1)
 
+-- two keys by what their comparison finds
 by_cmp : (a b : List ℕ) (o : Ordering) → slice_cmp nat_cmp a b ≡ o → (Some a ≡ Some b) ⊎ (KeyBefore (Some a) (Some b) ⊎ KeyBefore (Some b) (Some a))
 by_cmp a b Less e = inr (inl e)
 by_cmp a b Equal e = inl (ap (λ (c : List ℕ). Some c) (same_key a b e))
@@ -61,10 +63,12 @@ key_cases None (Some b) = inr (inr tt)
 key_cases (Some a) None = inr (inl tt)
 key_cases (Some a) (Some b) = by_cmp a b (slice_cmp nat_cmp a b) refl
 
+-- no key is before itself
 key_not : (k : Option (List ℕ)) → KeyBefore k k → ⊥
 key_not None before = before
 key_not (Some a) before = let t : slice_cmp nat_cmp a a ≡ Equal = tied_itself nat_list_cmp_total a in let bad : Equal ≡ Less = sym t ∙ before in absurd (cc)
 
+-- what is before the second is before the third
 key_trans : (i j k : Option (List ℕ)) → KeyBefore i j → KeyBefore j k → KeyBefore i k
 key_trans None j k p r = absurd p
 key_trans (Some a) None k p r = absurd r
@@ -73,12 +77,14 @@ key_trans (Some a) (Some b) (Some c) p r = nat_list_cmp_total.trans a b c p r
 
 -- Queue order
 
+-- of two rows of a list one has the earlier place
 list_total : (q : Queue) (x y : Row) → row_at q x.number ≡ Some x → row_at q y.number ≡ Some y → x.number ≢ y.number → x.slip.list ≡ y.slip.list → (place_at q x.number < place_at q y.number) ⊎ (place_at q y.number < place_at q x.number)
 list_total q x y found also other list = ⊎_elim
     (λ (same : place_at q x.number ≡ place_at q y.number). absurd (other (ap (λ (z : Row). z.number) (place_same q x.number y.number x y found also list same))))
     (λ (s : (place_at q x.number < place_at q y.number) ⊎ (place_at q y.number < place_at q x.number)). s)
     (cases_order (place_at q x.number) (place_at q y.number))
 
+-- of two rows one came first
 arrival_total : (q : Queue) (x y : Row) → row_at q x.number ≡ Some x → row_at q y.number ≡ Some y → x.number ≢ y.number → (arrival q x < arrival q y) ⊎ (arrival q y < arrival q x)
 arrival_total q x y found also other = ⊎_elim
     (λ (same : arrival q x ≡ arrival q y). absurd (other (ap (λ (z : Row). z.number) (arrival_same q x y found also same))))
@@ -147,6 +153,7 @@ precedes_trans ByArrival q x y z p r = omega arith
 
 -- Oldest order
 
+-- of two rows of a queue one is older
 pub older_total : (o : Order) (q : Queue) (x y : Row) → row_at q x.number ≡ Some x → row_at q y.number ≡ Some y → x.number ≢ y.number → IsOlder o q x y ⊎ IsOlder o q y x
 older_total ByList q x y found also other = ⊎_elim
     (λ (list : x.slip.list ≡ y.slip.list). ⊎_elim
@@ -161,6 +168,7 @@ older_total ByList q x y found also other = ⊎_elim
 older_total ByKey q x y found also other = arrival_total q x y found also other
 older_total ByArrival q x y found also other = arrival_total q x y found also other
 
+-- no row is older than itself
 pub older_not : (o : Order) (q : Queue) (x : Row) → IsOlder o q x x → ⊥
 older_not ByList q x before = ⊎_elim
     (λ (l : x.slip.list < x.slip.list). omega arith)
@@ -169,6 +177,7 @@ older_not ByList q x before = ⊎_elim
 older_not ByKey q x before = omega arith
 older_not ByArrival q x before = omega arith
 
+-- what is older than the second is older than the third
 pub older_trans : (o : Order) (q : Queue) (x y z : Row) → IsOlder o q x y → IsOlder o q y z → IsOlder o q x z
 older_trans ByList q x y z p r = ⊎_elim
     (λ (a : x.slip.list < y.slip.list). ⊎_elim

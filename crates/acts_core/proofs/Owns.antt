@@ -1,5 +1,5 @@
 -- what a caller's own acts do
-use Rattle.std.proofs.Common.{◌≡◌, ◌≢◌, ◌⊎◌, ℕ, ◌+◌, ◌-◌, ◌*◌, ◌<◌, ◌≤◌, Bool, true, false, ◌==◌, Option, Some, None, List, [], ◌∷◌, ◌++◌, length, filter, find, refl, sym, ap, ◌∙◌, subst, ⊎_elim, zero-add, eq-eqb, eqb-true, arith}
+use Rattle.std.proofs.Common.{◌≡◌, ◌≢◌, ℕ, ◌+◌, ◌-◌, ◌==◌, Option, Some, None, List, [], ◌∷◌, ◌++◌, length, filter, find, refl, sym, ap, ◌∙◌, subst, ⊎_elim, zero-add, eq-eqb, eqb-true, arith}
 use Rattle.std.proofs.lemmas.Bool.{cases_eq, cond-true}
 use Rattle.std.proofs.lemmas.List.Elements.{filter-append}
 use Rattle.std.specs.List.{position_or_len, AllByRecursion}
@@ -17,12 +17,12 @@ use Rattle.acts_core.specs.declared.rows.Slip.{Slip}
 use Rattle.acts_core.specs.History.{after, Legal, own, deed, deeds_of}
 use Rattle.acts_core.specs.Laws.{KeepsLock, GainsLock}
 use Rattle.acts_core.specs.Sound.{Sound, same_holder}
-use Rattle.acts_core.specs.State.{is_row, row_at, IsIn, is_of_list, rows_of, list_at, place_at, size_at, is_holder, nothing, reserved_by}
+use Rattle.acts_core.specs.State.{is_row, row_at, IsIn, is_of_list, rows_of, place_at, size_at, is_holder, nothing, reserved_by}
 use Rattle.acts_core.specs.Table.{CanGive, Can, in_state, left_in, changed, more, less, reserving, giving_back, acted}
 use Rattle.acts_core.proofs.KeyedLemmas.{find-append, find-alter_gone, find_none-filter, position-push}
 use Rattle.acts_core.proofs.RowFacts.{row_number, row_here, row_push, reserved_alter, reserved_holder, less_last, less_more}
 use Rattle.acts_core.proofs.SoundSteps.{list_found}
-use Rattle.acts_core.proofs.Stable.{same_state, untouched, apart_rows, first_other, rest_other, held_step, held_stays}
+use Rattle.acts_core.proofs.Stable.{same_state, untouched, apart_rows, held_step, held_stays}
 use Rattle.acts_core.proofs.Histories.{after-append, legal_rest, own-append, own-cons_mine, own-cons_other}
 
 -- The row of an act
@@ -31,35 +31,44 @@ use Rattle.acts_core.proofs.Histories.{after-append, legal_rest, own-append, own
 pub changed_in : (q : Queue) (r : ℕ) (f : Row → Row) (x : Row) (s : RowState) → row_at q r ≡ Some x → (f x).number ≡ x.number → (f x).state ≡ s → IsIn (changed q r f) r s
 changed_in q r f x s found number state = (f x, row_here q r f x found (number ∙ row_number q r x found), state)
 
+-- an acquired row is held
 pub own_acquired : (q : Queue) (h r : ℕ) → Can q h (Acq r) → IsIn (acted q h (Acq r)) r (Locked h)
 own_acquired q h r can = changed_in q r (in_state (Locked h)) can.0 (Locked h) can.1 refl refl
 
+-- a row that was left and is locked again is held
 pub own_locked : (q : Queue) (h r : ℕ) → Can q h (Lock r) → IsIn (acted q h (Lock r)) r (Locked h)
 own_locked q h r can = changed_in q r (in_state (Locked h)) can.0 (Locked h) can.1 refl refl
 
+-- a stolen row is held
 pub own_stolen : (q : Queue) (h r : ℕ) → Can q h (Steal r) → IsIn (acted q h (Steal r)) r (Locked h)
 own_stolen q h r can = changed_in q r (in_state (Locked h)) can.1.0 (Locked h) can.1.1 refl refl
 
+-- a row that is left is the caller's to lock
 pub own_unlocked : (q : Queue) (h r n : ℕ) → Can q h (Unlock r n) → IsIn (acted q h (Unlock r n)) r (Unlocked h)
 own_unlocked q h r n can = changed_in q r (left_in (Unlocked h) n) can.0 (Unlocked h) can.1 refl refl
 
+-- a released row is available
 pub own_released : (q : Queue) (h r n : ℕ) → Can q h (Rel r n) → IsIn (acted q h (Rel r n)) r Available
 own_released q h r n can = changed_in q r (left_in Available n) can.0 Available can.1 refl refl
 
+-- a dequeued row is out of the queue
 pub own_dequeued : (q : Queue) (h r : ℕ) → Can q h (Deq r) → IsIn (acted q h (Deq r)) r Dequeued
 own_dequeued q h r can = changed_in q r (in_state Dequeued) can.0 Dequeued can.1 refl refl
 
+-- a deleted row is gone
 pub own_deleted : (q : Queue) (h r : ℕ) → Can q h (Del r) → IsIn (acted q h (Del r)) r Deleted
 own_deleted q h r can = changed_in q r (in_state Deleted) can.0 Deleted can.1 refl refl
 
 -- Reservations
 
+-- two reservations with the same three numbers are one
 same_reservation : (u v : Reservation) → u.holder ≡ v.holder → u.entries ≡ v.entries → u.bytes ≡ v.bytes → u ≡ v
 same_reservation u v a b c =
     ap (λ (n : ℕ). let w : Reservation = record { holder = n; entries = u.entries; bytes = u.bytes } in w) a
     ∙ ap (λ (n : ℕ). let w : Reservation = record { holder = v.holder; entries = n; bytes = u.bytes } in w) b
     ∙ ap (λ (n : ℕ). let w : Reservation = record { holder = v.holder; entries = v.entries; bytes = n } in w) c
 
+-- a holder, where something is found or not
 holder_or : (h : ℕ) (o : Option Reservation) → ((v : Reservation) → o ≡ Some v → v.holder ≡ h) → (unwrap_or o (nothing h)).holder ≡ h
 holder_or h None holder = refl
 holder_or h (Some v) holder = holder v refl
@@ -68,6 +77,7 @@ holder_or h (Some v) holder = holder v refl
 pub reserved_by_holder : (q : Queue) (h : ℕ) → (reserved_by q h).holder ≡ h
 reserved_by_holder q h = holder_or h (find (is_holder h) q.reserved) (reserved_holder q h)
 
+-- one entry more than what is found
 more_is : (h size : ℕ) (o : Option Reservation) → more h size o ≡ Some (record (unwrap_or o (nothing h)) { entries = (unwrap_or o (nothing h)).entries + 1; bytes = (unwrap_or o (nothing h)).bytes + size })
 more_is h size None = ap (λ (n : ℕ). let w : Reservation = record { holder = h; entries = 1; bytes = n } in Some w) (sym (zero-add size))
 more_is h size (Some v) = refl
@@ -79,6 +89,7 @@ own_reserving q h size =
     (reserved_alter h (more h size) q.reserved (record (reserved_by q h) { entries = (reserved_by q h).entries + 1; bytes = (reserved_by q h).bytes + size })
     (more_is h size (find (is_holder h) q.reserved)) (reserved_by_holder q h))
 
+-- what is left, by what is found
 giving_by : (q : Queue) (h size : ℕ) (o : Option Reservation) → Sound q → find (is_holder h) q.reserved ≡ o → CanGive (unwrap_or o (nothing h)) size
     → reserved_by (giving_back q h size) h ≡ record (unwrap_or o (nothing h)) { entries = (unwrap_or o (nothing h)).entries - 1; bytes = (unwrap_or o (nothing h)).bytes - size }
 giving_by q h size None sound found can = absurd (omega (arith, can.entry))
@@ -108,6 +119,7 @@ pub own_enqueued : (q : Queue) (h r : ℕ) (slip : Slip) (content origin : List 
     → row_at (acted q h (Enq r slip content origin n)) r ≡ Some (record { number = r; slip = slip; state = Available; content = content; origin = origin; count = n })
 own_enqueued q h r slip content origin n can = row_push r q.rows (record { number = r; slip = slip; state = Available; content = content; origin = origin; count = n }) can.new refl
 
+-- a new row has the last place of its list
 last_place : (q : Queue) (r l : ℕ) (y : Row) → row_at q r ≡ None → y.number ≡ r → y.slip.list ≡ l → position_or_len (is_row r) (filter (is_of_list l) (q.rows ++ y ∷ [])) ≡ length (rows_of q l)
 last_place q r l y new number list =
     ap (position_or_len (is_row r)) (filter-append (is_of_list l) q.rows (y ∷ []) ∙ ap (λ (zs : List Row). rows_of q l ++ zs) (cond-true (is_of_list l y) (y ∷ []) [] (eq-eqb y.slip.list l list)))
@@ -165,6 +177,7 @@ own_rest h ds es fs p more = append_cancel_left (own h ds) (own h p.0) fs (sym (
 after_rest : (o : Queue) (ds es : List Deed) (p : IsPrefix ds es) → after (after o ds) p.0 ≡ after o es
 after_rest o ds es p = sym (after-append o ds p.0) ∙ ap (after o) p.1
 
+-- the same from one history to a longer one
 pub lock_stays : (o : Queue) (s0 s1 : List Deed) (h r : ℕ) (acts : List Act) → IsPrefix s0 s1 → Legal o s1 → own h s1 ≡ own h s0 ++ deeds_of h acts → AllByRecursion (KeepsLock r) acts → IsIn (after o s0) r (Locked h) → IsIn (after o s1) r (Locked h)
 lock_stays o s0 s1 h r acts p legal more keep held =
     let whole : Legal o (s0 ++ p.0) = subst (Legal o) (sym p.1) legal in
@@ -173,6 +186,7 @@ lock_stays o s0 s1 h r acts p legal more keep held =
 
 -- Locks that are gained
 
+-- a row that is taken is held, and was not held before
 gained : (q : Queue) (h s r : ℕ) (t : RowState) → t ≢ Locked h → s ≡ r → IsIn q s t → IsIn (changed q s (in_state (Locked h))) r (Locked h) × ((x : ℕ) → IsIn q x (Locked h) → x ≢ r)
 gained q h s r t differ e can = (
   subst (λ (n : ℕ). IsIn (changed q s (in_state (Locked h))) n (Locked h)) e (changed_in q s (in_state (Locked h)) can.0 (Locked h) can.1 refl refl),
@@ -194,6 +208,7 @@ gains_step q h (Enq s slip content origin n) r can gains = absurd gains
 gains_step q h (Bell s c) r can gains = absurd gains
 gains_step q h (Take c l) r can gains = absurd gains
 
+-- the same over deeds of others
 pub lock_gained : (q : Queue) (ds : List Deed) (h r : ℕ) (a : Act) → Legal q ds → own h ds ≡ deed h a ∷ [] → GainsLock r a → IsIn (after q ds) r (Locked h) × ((x : ℕ) → IsIn q x (Locked h) → x ≢ r)
 lock_gained q [] h r a legal mine gains = absurd (cc)
 lock_gained q (d ∷ ds) h r a legal mine gains = ⊎_elim

@@ -1,5 +1,5 @@
 -- prefixes of lists, and of histories
-use Rattle.std.proofs.Common.{◌≡◌, ℕ, ◌+◌, ◌≤◌, List, [], ◌∷◌, ◌++◌, length, refl, sym, ap, ◌∙◌, subst, append_assoc, append-nil, length-append, le_antisymm, arith}
+use Rattle.std.proofs.Common.{◌≡◌, ℕ, ◌≤◌, List, [], ◌∷◌, ◌++◌, length, refl, sym, ap, ◌∙◌, subst, append_assoc, append-nil, length-append, arith}
 use mathlib.Core.List.{IsPrefix}
 use Rattle.acts_core.specs.declared.deeds.Deed.{Deed}
 use Rattle.acts_core.specs.declared.queues.Queue.{Queue}
@@ -15,6 +15,7 @@ module _ {X : Type 0} where
   pub prefix_more : (xs ys : List X) → IsPrefix xs (xs ++ ys)
   prefix_more xs ys = (ys, refl)
 
+  -- a prefix of a prefix is a prefix
   pub prefix_trans : (xs ys zs : List X) → IsPrefix xs ys → IsPrefix ys zs → IsPrefix xs zs
   prefix_trans xs ys zs p r = (p.0 ++ r.0, sym (append_assoc xs p.0 r.0) ∙ ap (λ (l : List X). l ++ r.0) p.1 ∙ r.1)
 
@@ -34,6 +35,7 @@ module _ {X : Type 0} where
   pub prefix_length : (xs ys : List X) → IsPrefix xs ys → length xs ≤ length ys
   prefix_length xs ys p = omega (arith, length-append xs p.0, ap length p.1)
 
+  -- where nothing is left the lists are one
   whole : (xs ys rest : List X) → xs ++ rest ≡ ys → length xs ≡ length ys → xs ≡ ys
   whole xs ys [] e same = sym (append-nil xs) ∙ e
   whole xs ys (z ∷ rest) e same = absurd (omega (arith, length-append xs (z ∷ rest), ap length e))
@@ -57,6 +59,7 @@ own_between h ds es fs p r same =
     let high = prefix_length (own h es) (own h fs) (own_prefix h es fs r) in
     sym (prefix_whole (own h es) (own h fs) (own_prefix h es fs r) (omega (arith, ap length same)))
 
+-- where each caller's deeds are seen nothing is left
 all_seen : (seen rest : List Deed) → ((k : ℕ) → own k (seen ++ rest) ≡ own k seen) → rest ≡ []
 all_seen seen [] same = refl
 all_seen seen (d ∷ rest) same =

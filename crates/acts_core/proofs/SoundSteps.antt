@@ -1,5 +1,5 @@
 -- sound states stay sound
-use Rattle.std.proofs.Common.{◌≡◌, ◌≢◌, ℕ, ◌+◌, ◌-◌, ◌*◌, ◌^◌, ◌<◌, ◌≤◌, Bool, true, false, not, ◌==◌, ◌&&◌, nat_lt, Option, Some, None, List, [], ◌∷◌, ◌++◌, length, filter, find, sum_by, option_map, if◌then◌else◌, ◌⊎◌, inl, inr, unwrap_or, refl, sym, ap, ◌∙◌, subst, ⊎_elim, le_of_eq, le_trans, eq-eqb, ne_eqb, eqb-true, arith}
+use Rattle.std.proofs.Common.{◌≡◌, ◌≢◌, ℕ, ◌+◌, ◌-◌, ◌^◌, ◌<◌, ◌≤◌, Bool, true, false, not, ◌==◌, nat_lt, Option, Some, None, List, [], ◌∷◌, length, filter, find, sum_by, option_map, if◌then◌else◌, ◌⊎◌, inl, inr, unwrap_or, refl, sym, ap, ◌∙◌, subst, ⊎_elim, le_of_eq, le_trans, eq-eqb, ne_eqb, eqb-true, arith}
 use Rattle.std.proofs.lemmas.Bool.{eqb-false, cases_Bool, and_parts, and_from, cond-true, cond-false}
 use Rattle.std.proofs.lemmas.List.Sums.{sum_by-cons}
 use Rattle.std.specs.Option.{option_map_or}
@@ -21,19 +21,23 @@ use Rattle.acts_core.specs.State.{is_row, row_at, list_at, place_at, size_at, is
 use Rattle.acts_core.specs.Table.{CanGive, Can, in_state, left_in, changed, more, less, reserving, giving_back, appending, earlier, ringing, acted, most_bytes, most_entries}
 use Rattle.acts_core.proofs.KeyedLemmas.{find_passes, all-find, all-alter, all-push, all-filter, apart-alter, apart-push, apart-filter}
 use Rattle.acts_core.proofs.RowFacts.{changed_number, reserved_holder, more_holder, less_some}
-use Rattle.acts_core.proofs.Depths.{depth_kept, depth_dequeued, depth_reserving, depth_giving, depth_appending, size_found}
+use Rattle.acts_core.proofs.Depths.{depth_kept, depth_dequeued, depth_reserving, depth_giving, size_found}
 
 -- Keys
 
+-- rows of two numbers are apart
 number_splits : (r : ℕ) (x y : Row) → is_row r x ≡ false → is_row r y ≡ true → same_number x y ≡ false
 number_splits r x y out here = ne_eqb y.number x.number (λ e. eqb-false x.number r out (sym e ∙ eqb-true y.number r here))
 
+-- a row of the same number is apart from the same rows
 number_joins : (r : ℕ) (x y z : Row) → is_row r x ≡ true → is_row r y ≡ true → same_number x z ≡ false → same_number y z ≡ false
 number_joins r x y z here also out = ap (λ (n : ℕ). z.number == n) (eqb-true y.number r also ∙ sym (eqb-true x.number r here)) ∙ out
 
+-- reservations of two callers are apart
 holder_splits : (h : ℕ) (u v : Reservation) → is_holder h u ≡ false → is_holder h v ≡ true → same_holder u v ≡ false
 holder_splits h u v out here = ne_eqb v.holder u.holder (λ e. eqb-false u.holder h out (sym e ∙ eqb-true v.holder h here))
 
+-- a reservation of the same caller is apart from the same ones
 holder_joins : (h : ℕ) (u v w : Reservation) → is_holder h u ≡ true → is_holder h v ≡ true → same_holder u w ≡ false → same_holder v w ≡ false
 holder_joins h u v w here also out = ap (λ (n : ℕ). w.holder == n) (eqb-true v.holder h also ∙ sym (eqb-true u.holder h here)) ∙ out
 
@@ -45,6 +49,7 @@ bell_key c l b e = let p = and_parts (b.consumer == c) (b.list == l) e in (eqb-t
 pub bell_from_key : (c l : ℕ) (b : ring.Bell) → b.consumer ≡ c → b.list ≡ l → is_bell c l b ≡ true
 bell_from_key c l b e f = and_from (b.consumer == c) (b.list == l) (eq-eqb b.consumer c e) (eq-eqb b.list l f)
 
+-- bells of two places are apart
 bell_splits : (c l : ℕ) (a b : ring.Bell) → is_bell c l a ≡ false → is_bell c l b ≡ true → same_bell a b ≡ false
 bell_splits c l a b out here = ⊎_elim
     (λ (same : same_bell a b ≡ true).
@@ -55,6 +60,7 @@ bell_splits c l a b out here = ⊎_elim
     (λ (apart : same_bell a b ≡ false). apart)
     (cases_Bool (same_bell a b))
 
+-- a bell of the same place is apart from the same ones
 bell_joins : (c l : ℕ) (a b z : ring.Bell) → is_bell c l a ≡ true → is_bell c l b ≡ true → same_bell a z ≡ false → same_bell b z ≡ false
 bell_joins c l a b z here also out =
     let s = bell_key c l a here in
@@ -63,10 +69,12 @@ bell_joins c l a b z here also out =
 
 -- Rows
 
+-- what a change of a row makes comes from a row
 mapped : (f : Row → Row) (o : Option Row) (y : Row) → option_map f o ≡ Some y → (x : Row) × (o ≡ Some x) × (f x ≡ y)
 mapped f None y e = absurd (cc)
 mapped f (Some x) y e = (x, refl, cc)
 
+-- a row of the same slip fits
 fit_same : (l c : ℕ) (x y : Row) → FitsQueue l c x → y.slip ≡ x.slip → FitsQueue l c y
 fit_same l c x y fit same = record {
   size = subst (λ (s : Slip). s.size ≤ most_bytes) (sym same) fit.size;
@@ -106,6 +114,7 @@ row_fits q r x sound found = all-find (FitsQueue q.lists q.consumers) (is_row r)
 
 -- Reservations
 
+-- one entry more is within its limits
 more_sized : (h size : ℕ) (o : Option Reservation) (v : Reservation) → size ≤ most_bytes → ((u : Reservation) → o ≡ Some u → IsSized u) → more h size o ≡ Some v → IsSized v
 more_sized h size None v small sized e =
     let same : record { holder = h; entries = 1; bytes = size } ≡ v = cc in
@@ -133,6 +142,7 @@ sound_reserving q h size sound small few = record {
 pub reserved_found : (q : Queue) (h : ℕ) (v : Reservation) → find (is_holder h) q.reserved ≡ Some v → reserved_by q h ≡ v
 reserved_found q h v found = ap (λ (o : Option Reservation). unwrap_or o (nothing h)) found
 
+-- what is left is within its limits
 less_sized : (u v : Reservation) (size : ℕ) → CanGive u size → u.entries ≢ 1 → v ≡ record u { entries = u.entries - 1; bytes = u.bytes - size } → IsSized v
 less_sized u v size can many same =
     let number : v.entries ≡ u.entries - 1 = ap (λ (w : Reservation). w.entries) same in
@@ -206,6 +216,7 @@ sound_taking q t sound = record {
 pub list_found : (q : Queue) (r : ℕ) (x : Row) → row_at q r ≡ Some x → list_at q r ≡ x.slip.list
 list_found q r x found = ap (λ (o : Option Row). option_map_or (λ (y : Row). y.slip.list) o 0) found
 
+-- an act that keeps the depth keeps it small
 few_kept : (q : Queue) (h : ℕ) (a : Act) → Can q h a → KeepsDepth a → Sound q → entries (acted q h a) ≤ most_entries
 few_kept q h a can keeps sound = le_trans (le_of_eq (depth_kept q h a can keeps).0) sound.small
 
@@ -240,9 +251,11 @@ sound_after q (d ∷ ds) sound legal = sound_after (acted q d.caller d.act) ds (
 
 -- Openings
 
+-- a row is at most one entry
 row_entries-le-one : (x : Row) → row_entries x ≤ 1
 row_entries-le-one x = elim (counts x.state) as (λ b. (if b then 1 else 0) ≤ 1) [ true ↦ omega arith | false ↦ omega arith ]
 
+-- all rows are at most as many entries as rows
 sum_entries : (xs : List Row) → sum_by row_entries xs ≤ length xs
 sum_entries [] = omega arith
 sum_entries (x ∷ xs) = omega (arith, sum_by-cons row_entries x xs, row_entries-le-one x, sum_entries xs)

@@ -50,12 +50,15 @@ OwnOther = (h : ℕ) (d : Deed) → d.caller ≢ h → own h (d ∷ []) ≡ []
 
 -- Prefixes
 
+-- a history is a prefix of itself
 abbrev pub PrefixSelf : Type 0
 PrefixSelf = (xs : List Deed) → IsPrefix xs xs
 
+-- and of each history that goes on from it
 abbrev pub PrefixMore : Type 0
 PrefixMore = (xs ys : List Deed) → IsPrefix xs (xs ++ ys)
 
+-- a prefix of a prefix is a prefix
 abbrev pub PrefixTrans : Type 0
 PrefixTrans = (xs ys zs : List Deed) → IsPrefix xs ys → IsPrefix ys zs → IsPrefix xs zs
 
@@ -129,15 +132,25 @@ ReservedAlter = (h : ℕ) (f : Option Reservation → Option Reservation) (xs : 
 abbrev pub ReservedAlterOther : Type 0
 ReservedAlterOther = (h k : ℕ) (f : Option Reservation → Option Reservation) (xs : List Reservation) → h ≢ k → ((v : Reservation) → f (find (is_holder h) xs) ≡ Some v → v.holder ≡ h) → find (is_holder k) (alter (is_holder h) f xs) ≡ find (is_holder k) xs
 
+-- a new reservation at the end is found by its holder
+abbrev pub ReservedPush : Type 0
+ReservedPush = (h : ℕ) (xs : List Reservation) (v : Reservation) → find (is_holder h) xs ≡ None → v.holder ≡ h → find (is_holder h) (xs ++ v ∷ []) ≡ Some v
+
+-- and by no other
+abbrev pub ReservedPushOther : Type 0
+ReservedPushOther = (h : ℕ) (xs : List Reservation) (v : Reservation) → v.holder ≢ h → find (is_holder h) (xs ++ v ∷ []) ≡ find (is_holder h) xs
+
 -- what a change of one reservation does to a sum over all
 abbrev pub ReservedSum : Type 0
 ReservedSum = (w : Reservation → ℕ) (h : ℕ) (f : Option Reservation → Option Reservation) (xs : List Reservation) → sum_by w (alter (is_holder h) f xs) + option_map_or w (find (is_holder h) xs) 0 ≡ sum_by w xs + option_map_or w (f (find (is_holder h) xs)) 0
 
 -- Depth
 
+-- a reservation adds its entry and its bytes
 abbrev pub DepthReserve : Type 0
 DepthReserve = (q : Queue) (h size : ℕ) → (entries (acted q h (Reserve size)) ≡ entries q + 1) × (bytes (acted q h (Reserve size)) ≡ bytes q + size)
 
+-- what is given back takes its entry and its bytes out
 abbrev pub DepthGiveBack : Type 0
 DepthGiveBack = (q : Queue) (h size : ℕ) → Can q h (GiveBack size) → (entries (acted q h (GiveBack size)) + 1 ≡ entries q) × (bytes (acted q h (GiveBack size)) + size ≡ bytes q)
 
@@ -157,46 +170,56 @@ DepthLow = (q : Queue) → Sound q → bytes q ≤ most_bytes * entries q
 
 -- Sound states
 
+-- what a queue may begin with is sound
 abbrev pub SoundOpening : Type 0
 SoundOpening = (q : Queue) → IsOpening q → Sound q
 
+-- each step leaves a sound state sound
 abbrev pub SoundStep : Type 0
 SoundStep = (q : Queue) (h : ℕ) (a : Act) → Can q h a → Sound q → Sound (acted q h a)
 
+-- and so does a legal history
 abbrev pub SoundAfter : Type 0
 SoundAfter = (q : Queue) (ds : List Deed) → Sound q → Legal q ds → Sound (after q ds)
 
 -- What stays
 
--- two rows of one number with the same slip, content and origin
+-- the same number, slip, content and origin
 pub record SameGoods (x y : Row) : Type 0 where
   pub number : y.number ≡ x.number
   pub slip : y.slip ≡ x.slip
   pub content : y.content ≡ x.content
   pub origin : y.origin ≡ x.origin
 
--- a row keeps its number, slip, content and origin
+-- a row keeps its number, slip, content and origin in a step
 abbrev pub RowStep : Type 0
 RowStep = (q : Queue) (h : ℕ) (a : Act) (r : ℕ) (x : Row) → row_at q r ≡ Some x → (y : Row) × (row_at (acted q h a) r ≡ Some y) × SameGoods x y
 
+-- in a history too
 abbrev pub RowStays : Type 0
 RowStays = (q : Queue) (ds : List Deed) (r : ℕ) (x : Row) → row_at q r ≡ Some x → (y : Row) × (row_at (after q ds) r ≡ Some y) × SameGoods x y
 
--- a row number that the state after has not the state before had not
+-- a row number that the state after a step has not the state before had not
+abbrev pub NewStep : Type 0
+NewStep = (q : Queue) (h : ℕ) (a : Act) (r : ℕ) → row_at (acted q h a) r ≡ None → row_at q r ≡ None
+
+-- nor one that the state after a history has not
 abbrev pub NewStays : Type 0
 NewStays = (q : Queue) (ds : List Deed) (r : ℕ) → row_at (after q ds) r ≡ None → row_at q r ≡ None
 
--- a row keeps its list
+-- a row keeps its list in a step
 abbrev pub ListStep : Type 0
 ListStep = (q : Queue) (h : ℕ) (a : Act) (r : ℕ) (x : Row) → row_at q r ≡ Some x → list_at (acted q h a) r ≡ list_at q r
 
+-- in a history too
 abbrev pub ListStays : Type 0
 ListStays = (q : Queue) (ds : List Deed) (r : ℕ) (x : Row) → row_at q r ≡ Some x → list_at (after q ds) r ≡ list_at q r
 
--- and its place in it
+-- and its place in its list
 abbrev pub PlaceStep : Type 0
 PlaceStep = (q : Queue) (h : ℕ) (a : Act) (r : ℕ) (x : Row) → row_at q r ≡ Some x → place_at (acted q h a) r ≡ place_at q r
 
+-- in a history too
 abbrev pub PlaceStays : Type 0
 PlaceStays = (q : Queue) (ds : List Deed) (r : ℕ) (x : Row) → row_at q r ≡ Some x → place_at (after q ds) r ≡ place_at q r
 
@@ -204,13 +227,15 @@ PlaceStays = (q : Queue) (ds : List Deed) (r : ℕ) (x : Row) → row_at q r ≡
 abbrev pub HeldRowStep : Type 0
 HeldRowStep = (q : Queue) (k h : ℕ) (a : Act) (r : ℕ) (x : Row) → k ≢ h → Can q k a → row_at q r ≡ Some x → x.state ≡ Locked h → row_at (acted q k a) r ≡ Some x
 
+-- and so it is while a history of others goes on
 abbrev pub HeldRowStays : Type 0
 HeldRowStays = (q : Queue) (ds : List Deed) (h r : ℕ) (x : Row) → own h ds ≡ [] → Legal q ds → row_at q r ≡ Some x → x.state ≡ Locked h → row_at (after q ds) r ≡ Some x
 
--- it stays held
+-- it stays held in a step of another
 abbrev pub HeldStep : Type 0
 HeldStep = (q : Queue) (k h : ℕ) (a : Act) (r : ℕ) → k ≢ h → Can q k a → IsIn q r (Locked h) → IsIn (acted q k a) r (Locked h)
 
+-- in a history too
 abbrev pub HeldStays : Type 0
 HeldStays = (q : Queue) (ds : List Deed) (h r : ℕ) → own h ds ≡ [] → Legal q ds → IsIn q r (Locked h) → IsIn (after q ds) r (Locked h)
 
@@ -218,6 +243,7 @@ HeldStays = (q : Queue) (ds : List Deed) (h r : ℕ) → own h ds ≡ [] → Leg
 abbrev pub ReservedStep : Type 0
 ReservedStep = (q : Queue) (k h : ℕ) (a : Act) → k ≢ h → reserved_by (acted q k a) h ≡ reserved_by q h
 
+-- in a history too
 abbrev pub ReservedStays : Type 0
 ReservedStays = (q : Queue) (ds : List Deed) (h : ℕ) → own h ds ≡ [] → reserved_by (after q ds) h ≡ reserved_by q h
 
@@ -225,6 +251,7 @@ ReservedStays = (q : Queue) (ds : List Deed) (h : ℕ) → own h ds ≡ [] → r
 abbrev pub DeletedStep : Type 0
 DeletedStep = (q : Queue) (h : ℕ) (a : Act) (r : ℕ) → Can q h a → IsIn q r Deleted → IsIn (acted q h a) r Deleted
 
+-- in a history too
 abbrev pub DeletedStays : Type 0
 DeletedStays = (q : Queue) (ds : List Deed) (r : ℕ) → Legal q ds → IsIn q r Deleted → IsIn (after q ds) r Deleted
 
@@ -232,6 +259,7 @@ DeletedStays = (q : Queue) (ds : List Deed) (r : ℕ) → Legal q ds → IsIn q 
 abbrev pub GoneStep : Type 0
 GoneStep = (q : Queue) (h : ℕ) (a : Act) (r : ℕ) → Can q h a → IsIn q r Dequeued ⊎ IsIn q r Deleted → IsIn (acted q h a) r Dequeued ⊎ IsIn (acted q h a) r Deleted
 
+-- in a history too
 abbrev pub GoneStays : Type 0
 GoneStays = (q : Queue) (ds : List Deed) (r : ℕ) → Legal q ds → IsIn q r Dequeued ⊎ IsIn q r Deleted → IsIn (after q ds) r Dequeued ⊎ IsIn (after q ds) r Deleted
 
@@ -250,30 +278,37 @@ LeaveBell q c l (d ∷ ds) = LeavesBell q c l d.act × LeaveBell (acted q d.call
 abbrev pub BellStep : Type 0
 BellStep = (q : Queue) (h : ℕ) (a : Act) (c l : ℕ) → LeavesBell q c l a → bell_at (acted q h a) c l ≡ bell_at q c l
 
+-- in a history too
 abbrev pub BellStays : Type 0
 BellStays = (q : Queue) (ds : List Deed) (c l : ℕ) → LeaveBell q c l ds → bell_at (after q ds) c l ≡ bell_at q c l
 
 -- Own acts
 
--- the row of an own act is in its new state
+-- an acquired row is held
 abbrev pub OwnAcquired : Type 0
 OwnAcquired = (q : Queue) (h r : ℕ) → Can q h (Acq r) → IsIn (acted q h (Acq r)) r (Locked h)
 
+-- a row that was left and is locked again is held
 abbrev pub OwnLocked : Type 0
 OwnLocked = (q : Queue) (h r : ℕ) → Can q h (Lock r) → IsIn (acted q h (Lock r)) r (Locked h)
 
+-- a stolen row is held
 abbrev pub OwnStolen : Type 0
 OwnStolen = (q : Queue) (h r : ℕ) → Can q h (Steal r) → IsIn (acted q h (Steal r)) r (Locked h)
 
+-- a row that is left is the caller's to lock
 abbrev pub OwnUnlocked : Type 0
 OwnUnlocked = (q : Queue) (h r n : ℕ) → Can q h (Unlock r n) → IsIn (acted q h (Unlock r n)) r (Unlocked h)
 
+-- a released row is available
 abbrev pub OwnReleased : Type 0
 OwnReleased = (q : Queue) (h r n : ℕ) → Can q h (Rel r n) → IsIn (acted q h (Rel r n)) r Available
 
+-- a dequeued row is out of the queue
 abbrev pub OwnDequeued : Type 0
 OwnDequeued = (q : Queue) (h r : ℕ) → Can q h (Deq r) → IsIn (acted q h (Deq r)) r Dequeued
 
+-- a deleted row is gone
 abbrev pub OwnDeleted : Type 0
 OwnDeleted = (q : Queue) (h r : ℕ) → Can q h (Del r) → IsIn (acted q h (Del r)) r Deleted
 
@@ -281,13 +316,15 @@ OwnDeleted = (q : Queue) (h r : ℕ) → Can q h (Del r) → IsIn (acted q h (De
 abbrev pub ReservedHolder : Type 0
 ReservedHolder = (q : Queue) (h : ℕ) → (reserved_by q h).holder ≡ h
 
--- with one entry of this size more, and with one less
+-- with one entry of this size more
 abbrev pub with_more : Reservation → ℕ → Reservation
 with_more v size = record v { entries = v.entries + 1; bytes = v.bytes + size }
 
+-- with one entry of this size less
 abbrev pub with_less : Reservation → ℕ → Reservation
 with_less v size = record v { entries = v.entries - 1; bytes = v.bytes - size }
 
+-- a caller's reservation after it reserved more
 abbrev pub OwnReserve : Type 0
 OwnReserve = (q : Queue) (h size : ℕ) → reserved_by (acted q h (Reserve size)) h ≡ with_more (reserved_by q h) size
 
@@ -295,6 +332,7 @@ OwnReserve = (q : Queue) (h size : ℕ) → reserved_by (acted q h (Reserve size
 abbrev pub OwnDequeue : Type 0
 OwnDequeue = (q : Queue) (h r : ℕ) → reserved_by (acted q h (Deq r)) h ≡ with_more (reserved_by q h) (size_at q r)
 
+-- a caller's reservation after it gave some back; a sound state has no second record of the caller that could show
 abbrev pub OwnGiveBack : Type 0
 OwnGiveBack = (q : Queue) (h size : ℕ) → Sound q → Can q h (GiveBack size) → reserved_by (acted q h (GiveBack size)) h ≡ with_less (reserved_by q h) size
 
@@ -343,7 +381,7 @@ LockStays = (o : Queue) (s0 s1 : List Deed) (h r : ℕ) (acts : List Act) → Is
 abbrev pub Gains : Type 0
 Gains = (o : Queue) (s0 s1 : List Deed) (h r : ℕ) (a : Act) → IsPrefix s0 s1 → Legal o s1 → own h s1 ≡ own h s0 ++ deeds_of h (a ∷ []) → GainsLock r a → IsIn (after o s1) r (Locked h) × ((x : ℕ) → IsIn (after o s0) x (Locked h) → x ≢ r)
 
--- as where it acquires an available row
+-- a caller whose one new act acquires an available row
 abbrev pub Acquires : Type 0
 Acquires = (o : Queue) (s0 s1 : List Deed) (h r : ℕ) → IsPrefix s0 s1 → Legal o s1 → own h s1 ≡ own h s0 ++ deeds_of h (Acq r ∷ []) → IsIn (after o s1) r (Locked h) × ((x : ℕ) → IsIn (after o s0) x (Locked h) → x ≢ r)
 

@@ -1,5 +1,5 @@
 //! Laws of histories, on which every crate above rests. Each is the contract of a function with no body.
-ghost use Rattle.acts_core.specs.Laws.{AfterAppend, LegalAppend, LegalFront, LegalRest, OwnAppend, OwnMine, OwnOther, PrefixSelf, PrefixMore, PrefixTrans, PrefixShorter, PrefixWhole, PrefixLength, LegalPrefix, OwnBetween, SeenAll, RowAlter, RowAlterOther, RowSum, RowAppend, RowPush, RowPushOther, RowNumber, RowHere, RowElsewhere, ReservedAlter, ReservedAlterOther, ReservedSum, DepthReserve, DepthGiveBack, DepthKept, DepthLow, SoundOpening, SoundStep, SoundAfter, RowStep, RowStays, NewStays, ListStep, ListStays, PlaceStep, PlaceStays, HeldRowStep, HeldRowStays, HeldStep, HeldStays, ReservedStep, ReservedStays, DeletedStep, DeletedStays, GoneStep, GoneStays, BellStep, BellStays, OwnAcquired, OwnLocked, OwnStolen, OwnUnlocked, OwnReleased, OwnDequeued, OwnDeleted, ReservedHolder, OwnReserve, OwnDequeue, OwnGiveBack, OwnEnqueue, OwnEnqueued, OwnEnqueuedLast, BellRung, BellTaken, LockStays, Gains, Acquires, PrecedesTotal, PrecedesNot, PrecedesTrans, OlderTotal, OlderNot, OlderTrans, ArrivalSame, PlaceSame};
+ghost use Rattle.acts_core.specs.Laws.{AfterAppend, LegalAppend, LegalFront, LegalRest, OwnAppend, OwnMine, OwnOther, PrefixSelf, PrefixMore, PrefixTrans, PrefixShorter, PrefixWhole, PrefixLength, LegalPrefix, OwnBetween, SeenAll, RowAlter, RowAlterOther, RowSum, RowAppend, RowPush, RowPushOther, RowNumber, RowHere, RowElsewhere, ReservedAlter, ReservedAlterOther, ReservedPush, ReservedPushOther, ReservedSum, DepthReserve, DepthGiveBack, DepthKept, DepthLow, SoundOpening, SoundStep, SoundAfter, RowStep, RowStays, NewStep, NewStays, ListStep, ListStays, PlaceStep, PlaceStays, HeldRowStep, HeldRowStays, HeldStep, HeldStays, ReservedStep, ReservedStays, DeletedStep, DeletedStays, GoneStep, GoneStays, BellStep, BellStays, OwnAcquired, OwnLocked, OwnStolen, OwnUnlocked, OwnReleased, OwnDequeued, OwnDeleted, ReservedHolder, OwnReserve, OwnDequeue, OwnGiveBack, OwnEnqueue, OwnEnqueued, OwnEnqueuedLast, BellRung, BellTaken, LockStays, Gains, Acquires, PrecedesTotal, PrecedesNot, PrecedesTrans, OlderTotal, OlderNot, OlderTrans, ArrivalSame, PlaceSame};
 
 /// Histories one after the other.
 pub fn histories()
@@ -38,6 +38,8 @@ pub fn keyed()
     ensures row_elsewhere { RowElsewhere }
     ensures reserved_alter { ReservedAlter }
     ensures reserved_alter_other { ReservedAlterOther }
+    ensures reserved_push { ReservedPush }
+    ensures reserved_push_other { ReservedPushOther }
     ensures reserved_sum { ReservedSum }
 {}
 
@@ -60,6 +62,7 @@ pub fn soundness()
 pub fn stays()
     ensures row_step { RowStep }
     ensures row_stays { RowStays }
+    ensures new_step { NewStep }
     ensures new_stays { NewStays }
     ensures list_step { ListStep }
     ensures list_stays { ListStays }

@@ -1,6 +1,6 @@
 use Rattle.acts_core.specs.State.{is_row, is_holder}
 use Rattle.acts_core.proofs.KeyedLemmas.{find-append, sum-alter}
-use Rattle.acts_core.proofs.RowFacts.{row_alter, row_alter_other, row_push, row_push_other, row_number, row_here, row_elsewhere, reserved_alter, reserved_alter_other}
+use Rattle.acts_core.proofs.RowFacts.{reserved_push, reserved_push_other, row_alter, row_alter_other, row_push, row_push_other, row_number, row_here, row_elsewhere, reserved_alter, reserved_alter_other}
 use Rattle.acts_core.proofs.laws.keyed.Goals as goal
 
 pub returns-clause-row_alter : goal.returns-clause-row_alter
@@ -38,3 +38,9 @@ returns-clause-reserved_alter_other c = reserved_alter_other
 
 pub returns-clause-reserved_sum : goal.returns-clause-reserved_sum
 returns-clause-reserved_sum c w h f xs = sum-alter w (is_holder h) f xs
+
+pub returns-clause-reserved_push : goal.returns-clause-reserved_push
+returns-clause-reserved_push c = reserved_push
+
+pub returns-clause-reserved_push_other : goal.returns-clause-reserved_push_other
+returns-clause-reserved_push_other c = reserved_push_other

@@ -1,5 +1,5 @@
 use Rattle.acts_core.proofs.Bells.{bell_step, bell_stays}
-use Rattle.acts_core.proofs.Stable.{row_step, row_stays, new_stays, list_step, list_stays, place_step, place_stays, held_row_step, held_row_stays, held_step, held_stays, reserved_step, reserved_stays, deleted_step, deleted_stays, gone_step, gone_stays}
+use Rattle.acts_core.proofs.Stable.{new_step, row_step, row_stays, new_stays, list_step, list_stays, place_step, place_stays, held_row_step, held_row_stays, held_step, held_stays, reserved_step, reserved_stays, deleted_step, deleted_stays, gone_step, gone_stays}
 use Rattle.acts_core.proofs.laws.stays.Goals as goal
 
 pub returns-clause-row_step : goal.returns-clause-row_step
@@ -58,3 +58,6 @@ returns-clause-bell_step c = bell_step
 
 pub returns-clause-bell_stays : goal.returns-clause-bell_stays
 returns-clause-bell_stays c = bell_stays
+
+pub returns-clause-new_step : goal.returns-clause-new_step
+returns-clause-new_step c = new_step
