@@ -1,5 +1,5 @@
 -- which status a run of the program ends with, and what it writes
-use Rattle.std.specs.Prelude.{◌≡◌, ℕ, ◌+◌, ◌<◌, ◌≤◌, ◌⊎◌, Option, List, [], ◌∷◌, ◌++◌, length, take, codes, ⊥}
+use Rattle.std.specs.Prelude.{◌≡◌, ℕ, ◌+◌, ◌<◌, ◌≤◌, ◌⊎◌, Option, List, [], ◌∷◌, ◌++◌, length, take, codes}
 use Rattle.std.specs.Fmt.{decimal}
 use Rattle.acts_core.specs.History.{Legal}
 use Rattle.acts_core.specs.State.{empty}
@@ -50,7 +50,7 @@ pub record IsLineRefused (text : List ℕ) (left left' : Option (List ℕ)) : Ty
 abbrev pub Comes : Status → List ℕ → List (List ℕ) → Option (List ℕ) → Option (List ℕ) → ℕ → ℕ → Type 0
 Comes Done text words left left' faults faults' = IsRun words × IsDone text left left'
 Comes InputRefused text words left left' faults faults' = IsRun words × (IsTooLarge text left left' ⊎ IsLineRefused text left left')
-Comes WordsRefused text words left left' faults faults' = (IsRun words → ⊥) × (text ≡ codes "fault: words\n")
+Comes WordsRefused text words left left' faults faults' = (IsRun words → ⊥) × (left' ≡ left) × (text ≡ codes "fault: words\n")
 Comes ReadFault text words left left' faults faults' = IsRun words × (faults < faults') × (text ≡ codes "fault: read\n")
 Comes NoMemory text words left left' faults faults' = IsRun words × (text ≡ codes "fault: memory\n")
 Comes WriteFault text words left left' faults faults' = ⊥

@@ -1,7 +1,9 @@
 pub mod Message
 pub mod Texts
 pub mod Script
+pub mod Ids
 pub mod Run
+pub mod Fits
 pub mod Input
 pub mod Ends
 pub mod Codes

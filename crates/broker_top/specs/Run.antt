@@ -8,7 +8,7 @@ use Rattle.acts_core.specs.declared.rows.Row.{Row}
 use Rattle.acts_core.specs.declared.rows.RowState.{RowState}
 use Rattle.acts_core.specs.declared.rows.RowState.TheVariants.{Available, Locked, Unlocked, Dequeued, Deleted}
 use Rattle.acts_core.specs.State.{empty, entries, bytes}
-use Rattle.acts_core.specs.History.{after, deeds_of}
+use Rattle.acts_core.specs.History.{after, deeds_of, Does}
 use Rattle.plain_queue.specs.Calls.{first_available, held_row, put_acts, take_acts, ack_acts}
 use Rattle.broker_top.specs.declared.lines.Answer.{Answer}
 use Rattle.broker_top.specs.declared.lines.Answer.TheVariants.{Accepted, Got, Empty, Acked, NotHeld}
@@ -47,6 +47,10 @@ acts_of q (Ack id) = acts_where ack_acts (held_row q actor id)
 abbrev pub next : Queue → Line → Queue
 next q l = after q (deeds_of actor (acts_of q l))
 
+-- the line's acts lead from one state to another, and each has its step
+abbrev pub Steps : Queue → Line → Queue → Type 0
+Steps old l new = Does old actor (acts_of old l) new
+
 -- the history of the lines: their deeds, in order
 abbrev pub history : Queue → List Line → List Deed
 history q [] = []
@@ -77,9 +81,13 @@ entry_text id Deleted = []
 abbrev pub row_text : Row → List ℕ
 row_text x = entry_text x.slip.id x.state
 
--- the queue's entries and bytes, and under it each entry in queue order, which is that of arrival
+-- the queue's entries and bytes
+abbrev pub depth_text : Queue → List ℕ
+depth_text q = codes "queue q " ++ (decimal (entries q) ++ (codes " " ++ (decimal (bytes q) ++ codes "\n")))
+
+-- and under it each entry in queue order, which is that of arrival
 abbrev pub queue_text : Queue → List ℕ
-queue_text q = codes "queue q " ++ (decimal (entries q) ++ (codes " " ++ (decimal (bytes q) ++ (codes "\n" ++ flat_map row_text q.rows))))
+queue_text q = depth_text q ++ flat_map row_text q.rows
 
 -- The text of a run: each line's answer, from line 2 on, and the state that the history of the lines leaves of an empty queue of one list.
 abbrev pub run_text : List Line → List ℕ

@@ -1,8 +1,10 @@
 -- which inputs are scripts, and which line is the first that makes an input none
-use Rattle.std.specs.Prelude.{◌≡◌, ◌≢◌, ℕ, ◌-◌, ◌<◌, ◌≤◌, ◌==◌, if◌then◌else◌, ◌⊎◌, List, [], ◌∷◌, length, take, ⊤, ⊥}
+use Rattle.std.specs.Prelude.{◌≡◌, ◌≢◌, ℕ, ◌-◌, ◌<◌, ◌≤◌, ◌==◌, if◌then◌else◌, ◌⊎◌, List, [], ◌∷◌, length, take, ⊤}
 use Rattle.std.specs.List.{AllZip, AllPairs}
 use Rattle.broker_top.specs.declared.lines.Line.{Line}
 use Rattle.broker_top.specs.declared.lines.Line.TheVariants.{Put, Take, Ack}
+use Rattle.broker_top.specs.declared.script.InputFault.{InputFault}
+use Rattle.broker_top.specs.declared.script.InputFault.TheVariants.{NotBuilt, NoMemory}
 use Rattle.broker_top.specs.Texts.{definitions_text, IsLine}
 
 -- a byte in front of the first line
@@ -45,3 +47,8 @@ pub record IsFirstRefused (texts : List (List ℕ)) (n : ℕ) : Type 0 where
   pub inside : n ≤ length texts
   pub before : (n ≡ 1) ⊎ ((ls : List Line) × IsScript (take (n - 1) texts) ls)
   pub refused : (ls : List Line) → IsScript (take n texts) ls → ⊥
+
+-- why these texts are refused: the first line of them that is
+abbrev pub RefusesInput : List (List ℕ) → InputFault → Type 0
+RefusesInput texts (NotBuilt n) = IsFirstRefused texts n
+RefusesInput texts NoMemory = ⊤

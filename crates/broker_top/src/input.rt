@@ -1,10 +1,9 @@
 //! Reads the whole input, up to a limit.
-ghost use Rattle.std.specs.Prelude.{◌≡◌, ◌+◌, ◌<◌, ◌≤◌, ◌^◌, ◌++◌, length, MatchResult, OnErr, IfOk};
-ghost use Rattle.broker_top.specs.Input.{ReadsInput};
-
-use std::alloc::Global;
+ghost use Rattle.std.specs.Prelude.{◌≡◌, ◌<◌, ◌≤◌, ◌^◌, length, IfOk, vec_len};
+ghost use Rattle.broker_top.specs.Input.{ReadsInput, ReadsTurn};
 
 use outside_io::Source;
+use std::alloc::{AllocError, Global};
 
 /// What came of reading the input.
 #[derive(Debug, Drop)]
@@ -28,7 +27,7 @@ pub fn read_input<S: Source>(alloc: Global, source: &mut S, limit: usize) -> Inp
     ensures told { ReadsInput limit result (S.left source.old) (S.left source.new) (S.faults source.old) (S.faults source.new) }
     ensures faults { S.faults source.old ≤ S.faults source.new }
 {
-    let Ok(mut chunk) = vec![in alloc; 0u8; CHUNK] else {
+    let Ok(mut chunk) = zeros(alloc, CHUNK) else {
         return Input::NoMemory;
     };
     let mut kept = Vec::new(alloc);
@@ -42,4 +41,36 @@ pub fn read_input<S: Source>(alloc: Global, source: &mut S, limit: usize) -> Inp
         }
     }
     Input::TooLarge
+}
+
+/// So many zeros.
+fn zeros(alloc: Global, count: usize) -> Result<Vec<u8>, AllocError>
+    ensures { IfOk result (λ zeros. vec_len zeros ≡ count) }
+{
+    vec![in alloc; 0u8; count]
+}
+
+/// What came of one read.
+enum Turn {
+    More,
+    End,
+    Fault,
+    NoMemory,
+}
+
+/// Reads once, and keeps what came.
+fn read_turn<S: Source>(source: &mut S, buffer: &mut [u8], kept: &mut Vec<u8>) -> Turn
+    requires { 0 < length buffer.old }
+    ensures told { ReadsTurn (length buffer.old) result (S.left source.old) (S.left source.new) kept.old.items kept.new.items }
+    ensures faults { S.faults source.old ≤ S.faults source.new }
+    ensures fault { result ≡ Turn.Fault → S.faults source.old < S.faults source.new }
+{
+    match source.read(buffer) {
+        Ok(0) => Turn::End,
+        Ok(count) => match kept.extend_from_slice(&buffer[..count]) {
+            Ok(()) => Turn::More,
+            Err(_) => Turn::NoMemory,
+        },
+        Err(_) => Turn::Fault,
+    }
 }

@@ -2,7 +2,15 @@
 //! bytes of the output and a status.
 #![tactic(auto)]
 
+pub mod input;
 pub mod lines;
 mod reading_lines;
+pub mod run;
+pub mod script;
+pub mod status;
+pub mod top;
 
-pub use lines::Line;
+pub use lines::{Answer, Line};
+pub use script::InputFault;
+pub use status::Status;
+pub use top::{INPUT_LIMIT, run_command};

@@ -1,13 +1,11 @@
 //! Reads one line of a script.
 ghost use Rattle.std.specs.Prelude.{IfOk, MatchOption};
 ghost use Rattle.broker_top.specs.Texts.{IsLine, SaysOneLine};
-
 ghost use Rattle.broker_top.specs.declared.lines.Line.{Line};
-use std::alloc::Global;
-
-use acts_core::{Bytes, NoMemory};
 
 use crate::lines::Line;
+use acts_core::{Bytes, NoMemory};
+use std::alloc::Global;
 
 /// The line that a text says; none exactly where it says no line.
 pub(crate) fn read_line(alloc: Global, text: &[u8]) -> Result<Option<Line>, NoMemory>
@@ -19,5 +17,4 @@ pub(crate) fn read_line(alloc: Global, text: &[u8]) -> Result<Option<Line>, NoMe
 /// No text says two lines.
 pub fn one_line()
     ensures { SaysOneLine }
-{
-}
+{}

@@ -2,7 +2,7 @@
 //! acts of the table of acts.
 #![tactic(auto)]
 
-ghost use Rattle.std.specs.Prelude.{◌≡◌, ◌≤◌, ◌<◌, length, OnOk, OnErr, ℕ, slice_get};
+ghost use Rattle.std.specs.Prelude.{◌≡◌, ◌≤◌, ◌<◌, ◌^◌, length, OnOk, OnErr, ℕ, slice_get};
 ghost use Rattle.std.specs.Option.{option_map};
 ghost use Rattle.acts_core.specs.History.{Does};
 ghost use Rattle.acts_core.specs.State.{depth, empty, entries};
@@ -133,7 +133,9 @@ impl PlainQueue {
     /// The id, size and state of the row at this place, from 0 in order of arrival; none where there is no
     /// such row.
     pub fn row(&self, row: u64) -> Option<(u64, u64, RowState)>
-        ensures { result ≡ option_map (λ x. (x.slip.id, x.slip.size, x.state)) (slice_get self.now.rows row) }
+        ensures row { result ≡ option_map (λ x. (x.slip.id, x.slip.size, x.state)) (slice_get self.now.rows row) }
+        // A number of rows always fits.
+        ensures few { length self.now.rows < 2 ^ 63 }
     {
         let row = self.rows.get(row as usize)?;
         Some((row.slip.id, row.slip.size, row.state))

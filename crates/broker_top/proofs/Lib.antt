@@ -1,0 +1,5 @@
+pub mod LineFeeds
+pub mod Scripts
+pub mod IdSets
+pub mod Runs
+pub mod Stub

@@ -1,0 +1,75 @@
+//! The top call.
+ghost use Rattle.std.specs.Prelude.{◌≡◌, ◌↔◌, IsTrue, map, string_bytes};
+ghost use Rattle.broker_top.specs.Ends.{Ends, IsRun, Tells};
+
+use std::alloc::Global;
+
+use acts_core::NoMemory;
+use outside_io::{Sink, Source, write_all};
+
+use crate::input::{Input, read_input};
+use crate::run::run;
+use crate::script::{InputFault, read_script};
+use crate::status::Status;
+
+/// The greatest input, in bytes.
+pub const INPUT_LIMIT: usize = 67_108_864;
+
+/// Whether the words are the one word `run`.
+fn is_run(words: &[String]) -> bool
+    ensures { IsTrue result ↔ IsRun (map string_bytes words.now) }
+{
+    match words {
+        [word] => word.as_str() == "run",
+        _ => false,
+    }
+}
+
+/// Writes the text of a status, and answers the status, or that the sink failed.
+fn tell<K: Sink>(out: &mut K, status: Status, text: &[u8]) -> Status
+    ensures { Tells result status text.now (K.written out.old) (K.written out.new) (K.faults out.old) (K.faults out.new) }
+{
+    match write_all(out, text) {
+        Ok(()) => status,
+        Err(_) => Status::WriteFault,
+    }
+}
+
+/// Does all that the program does for these words of its command line: it reads the whole input, tests
+/// every line, runs the lines, and writes the text of the run, or a fault line.
+///
+/// docs/SCRIPT.md, "Statuses", says when each status comes. The input has at most [`INPUT_LIMIT`] bytes.
+pub fn run_command<S: Source, K: Sink>(
+    alloc: Global,
+    words: &[String],
+    input: &mut S,
+    out: &mut K,
+) -> Status
+    ensures { Ends result (map string_bytes words.now) (S.left input.old) (S.left input.new) (K.written out.old) (K.written out.new) (S.faults input.old) (S.faults input.new) (K.faults out.old) (K.faults out.new) }
+{
+    if !is_run(words) {
+        return tell(out, Status::WordsRefused, b"fault: words\n");
+    }
+    let bytes = match read_input(alloc, input, INPUT_LIMIT) {
+        Input::Whole(bytes) => bytes,
+        Input::TooLarge => {
+            return tell(out, Status::InputRefused, b"fault: input too large\n");
+        }
+        Input::Fault => return tell(out, Status::ReadFault, b"fault: read\n"),
+        Input::NoMemory => return tell(out, Status::NoMemory, b"fault: memory\n"),
+    };
+    let lines = match read_script(alloc, &bytes) {
+        Ok(lines) => lines,
+        Err(InputFault::NotBuilt { line }) => {
+            return match format!(in alloc; "fault: line {line}: NotBuilt\n") {
+                Ok(text) => tell(out, Status::InputRefused, text.as_bytes()),
+                Err(_) => tell(out, Status::NoMemory, b"fault: memory\n"),
+            };
+        }
+        Err(InputFault::NoMemory) => return tell(out, Status::NoMemory, b"fault: memory\n"),
+    };
+    match run(alloc, lines) {
+        Ok(text) => tell(out, Status::Done, text.as_bytes()),
+        Err(NoMemory) => tell(out, Status::NoMemory, b"fault: memory\n"),
+    }
+}
