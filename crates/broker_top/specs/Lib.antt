@@ -1,5 +1,2 @@
 pub mod Message
 pub mod Texts
-pub mod Script
-pub mod Run
-pub mod Ends
