@@ -1,18 +1,21 @@
 -- what the texts of lines are made of: runs of digits, numbers, and the fixed texts between them
-use Rattle.std.proofs.Common.{◌≡◌, ◌≢◌, ℕ, ◌+◌, ◌-◌, ◌*◌, ◌^◌, ◌<◌, ◌≤◌, suc, ◌⊎◌, Bool, true, false, List, [], ◌∷◌, ◌++◌, length, take, drop, get_or, refl, sym, ap, ◌∙◌, subst, inl, inr, add-one, arith}
+use Rattle.std.proofs.Common.{◌≡◌, ◌≢◌, ℕ, ◌+◌, ◌-◌, ◌*◌, ◌^◌, ◌<◌, ◌≤◌, suc, ◌⊎◌, Bool, true, false, List, [], ◌∷◌, ◌++◌, length, take, drop, get_or, ◌==◌, eqb, refl, sym, ap, ◌∙◌, subst, inl, inr, add-one, arith}
 use Rattle.std.proofs.Math.Nat.{pow-suc, pow-le-pow_right}
 use Rattle.std.specs.Char.{is_ascii_digit, digit_value}
 use Rattle.std.specs.Fmt.{decimal}
 use Rattle.std.specs.Int.{IsInRange}
 use Rattle.std.specs.List.{All, AllPass, prefix_len}
 use Rattle.std.specs.Str.Parse.{AllDigits, digits_value}
-use Rattle.std.proofs.lemmas.Bool.Decides.{nat_tests}
+use Rattle.std.specs.Cmp.Lexicographic.{pointwise}
+use Rattle.std.proofs.lemmas.Bool.{cases_lt, false≢true}
+use Rattle.std.proofs.lemmas.Bool.Decides.{nat_tests, Decides-eqb}
 use Rattle.std.proofs.lemmas.Fmt.{digits_decimal, decimal_injective, decimal_nonempty, length-decimal-le, first_decimal, decimal-digits_value, digits_value-decimal, decimal_digit}
 use Rattle.std.proofs.lemmas.Int.Digits.{digits_value_more, digits_value-lt}
 use Rattle.std.proofs.lemmas.List.{append_cancel_left, append_cancel_right, get_or_append_left, get_or-append-add, get_or-take, get_or-drop, get_or_past, length-append, take_at, drop_at, take-append-drop}
 use Rattle.std.proofs.lemmas.List.Elements.{All-head, All-tail}
 use Rattle.std.proofs.lemmas.List.Sums.{prefix_len_is, prefix_len_passes, prefix_len_stops}
 use Rattle.std.proofs.lemmas.List.Folds.{length-prefix_len}
+use Rattle.std.proofs.lemmas.Slice.Eq.{slice_eq-Decides}
 use Rattle.std.proofs.lemmas.Str.Parse.{IsNumeralModel, digit_at}
 use Rattle.broker_top.specs.Texts.{IsNumber, IsNumberFirst}
 
@@ -92,7 +95,7 @@ rest_ends text =
     let n = prefix_len is_ascii_digit text in
     let at : n + 0 ≡ n = omega arith in
     let reads = get_or-drop n text 0 0 ∙ ap (λ (k : ℕ). get_or text k 0) at in
-    elim (lt_or_le n (length text)) [
+    elim (cases_lt n (length text)) [
     | inl l ↦ ap is_ascii_digit reads ∙ prefix_len_stops is_ascii_digit text 0 l
     | inr l ↦ ap is_ascii_digit (reads ∙ get_or_past text n 0 l)
     ]
@@ -119,7 +122,22 @@ number_bounds ds n h =
     (omega arith, omega arith)
 
 pub number_front : (ds : List ℕ) (n : ℕ) → IsNumber ds n → get_or ds 0 0 ≡ 48 → length ds ≤ 1
-number_front ds n h front = elim (lt_or_le 0 n) [
+number_front ds n h front = elim (cases_lt 0 n) [
     | inl l ↦ absurd (omega (arith, first_decimal n l (fits n h.small), ap (λ t. get_or t 0 0) h.is))
     | inr l ↦ omega (arith, ap length h.is, ap length (decimal_digit n (omega arith)))
     ]
+
+pub is_empty_tells : (n : ℕ) (r : Bool) → r ≡ (n == 0) → r ≡ true → n ≡ 0
+is_empty_tells n r e h = (Decides-eqb n 0).0 (sym e ∙ h)
+
+pub not_empty_tells : (n : ℕ) (r : Bool) → r ≡ (n == 0) → r ≡ false → 0 < n
+not_empty_tells n r e h = grind (arith, nat_tests)
+
+-- zero stands in front alone, as a test of two parts says
+pub front_alone : (ds : List ℕ) → 0 < length ds → ((get_or ds 0 0 ≡ 48) × (length ds ≤ 1)) ⊎ (get_or ds 0 0 ≡ 48 → ⊥) → get_or ds 0 0 ≡ 48 → length ds ≡ 1
+front_alone ds some (inl h) front = let few = h.1 in omega arith
+front_alone ds some (inr h) front = absurd (h front)
+
+-- what a failed `==` of two slices of bytes says
+pub slices_differ : (xs ys : List ℕ) (r : Bool) → r ≡ pointwise eqb xs ys → r ≡ false → xs ≡ ys → ⊥
+slices_differ xs ys r e fails same = false≢true (sym fails ∙ (slice_eq-Decides Decides-eqb xs ys r e).1 same)
