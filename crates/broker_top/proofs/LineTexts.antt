@@ -1,17 +1,17 @@
 -- what the texts of lines are made of: runs of digits, numbers, and the fixed texts between them
-use Rattle.std.proofs.Common.{◌≡◌, ◌≢◌, ℕ, ◌+◌, ◌-◌, ◌*◌, ◌^◌, ◌<◌, ◌≤◌, suc, ◌⊎◌, Bool, true, false, List, [], ◌∷◌, ◌++◌, length, take, drop, get_or, ◌==◌, eqb, refl, sym, ap, ◌∙◌, subst, inl, inr, add-one, arith}
+use Rattle.std.proofs.Common.{◌≡◌, ℕ, ◌+◌, ◌-◌, ◌*◌, ◌^◌, ◌<◌, ◌≤◌, ◌⊎◌, Bool, true, false, List, [], ◌∷◌, ◌++◌, length, take, drop, get_or, ◌==◌, eqb, refl, sym, ap, ◌∙◌, inl, inr, add-one, arith}
 use Rattle.std.proofs.Math.Nat.{pow-suc, pow-le-pow_right}
 use Rattle.std.specs.Char.{is_ascii_digit, digit_value}
 use Rattle.std.specs.Fmt.{decimal}
 use Rattle.std.specs.Int.{IsInRange}
-use Rattle.std.specs.List.{All, AllPass, prefix_len}
+use Rattle.std.specs.List.{AllPass, prefix_len}
 use Rattle.std.specs.Str.Parse.{AllDigits, digits_value}
 use Rattle.std.specs.Cmp.Lexicographic.{pointwise}
 use Rattle.std.proofs.lemmas.Bool.{cases_lt, false≢true}
 use Rattle.std.proofs.lemmas.Bool.Decides.{nat_tests, Decides-eqb}
-use Rattle.std.proofs.lemmas.Fmt.{digits_decimal, decimal_injective, decimal_nonempty, length-decimal-le, first_decimal, decimal-digits_value, digits_value-decimal, decimal_digit}
+use Rattle.std.proofs.lemmas.Fmt.{digits_decimal, decimal_injective, decimal_nonempty, length-decimal-le, first_decimal, decimal-digits_value, decimal_digit}
 use Rattle.std.proofs.lemmas.Int.Digits.{digits_value_more, digits_value-lt}
-use Rattle.std.proofs.lemmas.List.{append_cancel_left, append_cancel_right, get_or_append_left, get_or-append-add, get_or-take, get_or-drop, get_or_past, length-append, take_at, drop_at, take-append-drop}
+use Rattle.std.proofs.lemmas.List.{get_or_append_left, get_or-append-add, get_or-take, get_or-drop, get_or_past, length-append, take_at, drop_at, take-append-drop}
 use Rattle.std.proofs.lemmas.List.Elements.{All-head, All-tail}
 use Rattle.std.proofs.lemmas.List.Sums.{prefix_len_is, prefix_len_passes, prefix_len_stops}
 use Rattle.std.proofs.lemmas.List.Folds.{length-prefix_len}
@@ -46,8 +46,8 @@ digits_len n rest small ends =
     (omega (arith, length-append ds rest))
     (λ k l. ap is_ascii_digit (get_or_append_left ds rest 0 k l) ∙ digit_in_range (get_or ds k 0) (digit_at ds k (digits_decimal model n small) l))
     (λ _.
-        let at : length ds ≡ length ds + 0 = omega arith in
-        ap is_ascii_digit (ap (λ (k : ℕ). get_or (ds ++ rest) k 0) at ∙ get_or-append-add ds rest 0 0) ∙ ends)
+    let at : length ds ≡ length ds + 0 = omega arith in
+    ap is_ascii_digit (ap (λ (k : ℕ). get_or (ds ++ rest) k 0) at ∙ get_or-append-add ds rest 0 0) ∙ ends)
 
 pub number_len : (text : List ℕ) (n : ℕ) (rest : List ℕ) → IsNumberFirst text n rest → prefix_len is_ascii_digit text ≡ length (decimal n)
 number_len text n rest h = ap (λ t. prefix_len is_ascii_digit t) h.is ∙ digits_len n rest (fits n h.small) h.ends
@@ -96,8 +96,8 @@ rest_ends text =
     let at : n + 0 ≡ n = omega arith in
     let reads = get_or-drop n text 0 0 ∙ ap (λ (k : ℕ). get_or text k 0) at in
     elim (cases_lt n (length text)) [
-    | inl l ↦ ap is_ascii_digit reads ∙ prefix_len_stops is_ascii_digit text 0 l
-    | inr l ↦ ap is_ascii_digit (reads ∙ get_or_past text n 0 l)
+      | inl l ↦ ap is_ascii_digit reads ∙ prefix_len_stops is_ascii_digit text 0 l
+      | inr l ↦ ap is_ascii_digit (reads ∙ get_or_past text n 0 l)
     ]
 
 pub number_first : (text : List ℕ) (n : ℕ) → IsNumber (take (prefix_len is_ascii_digit text) text) n → IsNumberFirst text n (drop (prefix_len is_ascii_digit text) text)
@@ -123,9 +123,9 @@ number_bounds ds n h =
 
 pub number_front : (ds : List ℕ) (n : ℕ) → IsNumber ds n → get_or ds 0 0 ≡ 48 → length ds ≤ 1
 number_front ds n h front = elim (cases_lt 0 n) [
-    | inl l ↦ absurd (omega (arith, first_decimal n l (fits n h.small), ap (λ t. get_or t 0 0) h.is))
-    | inr l ↦ omega (arith, ap length h.is, ap length (decimal_digit n (omega arith)))
-    ]
+  | inl l ↦ absurd (omega (arith, first_decimal n l (fits n h.small), ap (λ t. get_or t 0 0) h.is))
+  | inr l ↦ omega (arith, ap length h.is, ap length (decimal_digit n (omega arith)))
+]
 
 pub is_empty_tells : (n : ℕ) (r : Bool) → r ≡ (n == 0) → r ≡ true → n ≡ 0
 is_empty_tells n r e h = (Decides-eqb n 0).0 (sym e ∙ h)

@@ -1,5 +1,5 @@
 -- the parts of a put and of an acknowledgement, and that no text says two lines
-use Rattle.std.proofs.Common.{◌≡◌, ℕ, ◌≤◌, List, [], ◌∷◌, ◌++◌, length, get_or, refl, sym, ap, ◌∙◌, subst, arith}
+use Rattle.std.proofs.Common.{◌≡◌, ℕ, ◌≤◌, List, ◌++◌, length, get_or, refl, sym, ap, ◌∙◌, arith}
 use Rattle.std.specs.Prelude.{codes}
 use Rattle.std.specs.Fmt.{decimal}
 use Rattle.std.specs.List.{AllPass}
@@ -7,7 +7,7 @@ use Rattle.std.proofs.lemmas.List.{append_cancel_left, append_cancel_right}
 use Rattle.broker_top.specs.declared.lines.Line.{Line}
 use Rattle.broker_top.specs.declared.lines.Line.TheVariants.{Put, Take, Ack}
 use Rattle.broker_top.specs.Message.{message_bytes}
-use Rattle.broker_top.specs.Texts.{put_text, take_text, ack_text, is_plain, IsPut, IsAck, IsNumberFirst, IsLine, SaysOneLine}
+use Rattle.broker_top.specs.Texts.{take_text, is_plain, IsPut, IsAck, IsNumberFirst, IsLine, SaysOneLine}
 use Rattle.broker_top.proofs.LineTexts.{one_number}
 
 abbrev put_front : List ℕ

@@ -1,9 +1,5 @@
 //! The lines of a script, each byte for byte one of three texts (docs/SCRIPT.md).
-ghost use Rattle.std.specs.Prelude.{◌≡◌, IfOk, MatchOption};
-
-use std::alloc::Global;
-
-use acts_core::{Bytes, NoMemory};
+use acts_core::Bytes;
 
 /// A line of a script, after the definitions.
 #[derive(Debug, Drop)]

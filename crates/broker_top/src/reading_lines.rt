@@ -5,13 +5,11 @@ ghost use Rattle.std.specs.List.{AllPass, prefix_len};
 ghost use Rattle.std.specs.Str.Parse.{digits_value};
 ghost use Rattle.broker_top.specs.Message.{message_bytes};
 ghost use Rattle.broker_top.specs.Texts.{IsAck, IsLine, IsNumber, IsNumberFirst, IsPut, SaysOneLine, is_plain};
-
 ghost use Rattle.broker_top.specs.declared.lines.Line.{Line};
-use std::alloc::Global;
-
-use acts_core::{Bytes, NoMemory};
 
 use crate::lines::Line;
+use acts_core::{Bytes, NoMemory};
+use std::alloc::Global;
 
 /// What stands before the id of a put.
 const PUT_FRONT: &[u8] = b"{\"do\":\"put\",\"actor\":\"a\",\"queue\":\"q\",\"id\":";
@@ -118,7 +116,11 @@ fn read_put(text: &[u8]) -> Option<(u64, &[u8])>
     let (id, rest) = read_number(rest)?;
     let rest = strip_front(rest, PUT_MIDDLE)?;
     let body = strip_end(rest, PUT_END)?;
-    if is_body(body) { Some((id, body)) } else { None }
+    if is_body(body) {
+        Some((id, body))
+    } else {
+        None
+    }
 }
 
 /// The id that the text acknowledges; none if it acknowledges none.
@@ -140,7 +142,9 @@ fn message_content(alloc: Global, id: u64, body: &[u8]) -> Result<Bytes, NoMemor
     };
     bytes.extend_from_slice(&id.to_be_bytes()).unwrap();
     bytes.extend_from_slice(&[0, 4, 0, 0]).unwrap();
-    bytes.extend_from_slice(&(body.len() as u32).to_be_bytes()).unwrap();
+    bytes
+        .extend_from_slice(&(body.len() as u32).to_be_bytes())
+        .unwrap();
     bytes.extend_from_slice(body).unwrap();
     Ok(Bytes::from_vec(bytes))
 }
@@ -165,5 +169,149 @@ pub(crate) fn read_line(alloc: Global, text: &[u8]) -> Result<Option<Line>, NoMe
 /// No text says two lines.
 pub fn one_line()
     ensures { SaysOneLine }
-{
+{}
+
+#[cfg(test)]
+mod tests {
+    use super::*;
+    use std::test::Fail;
+
+    /// What the text says: which line, its id and its content; 0 and nothing where a line has none.
+    fn parts(line: &Option<Line>) -> (&str, u64, &[u8]) {
+        match line {
+            Some(Line::Put { id, content }) => ("put", *id, content.as_slice()),
+            Some(Line::Take) => ("take", 0, &[]),
+            Some(Line::Ack { id }) => ("ack", *id, &[]),
+            None => ("none", 0, &[]),
+        }
+    }
+
+    #[test]
+    fn reads_what_the_text_says(rt: HostRuntime) -> Result<(), Fail> {
+        let cases: [(&[u8], &str, u64, &[u8]); 20] = [
+            (
+                br#"{"do":"put","actor":"a","queue":"q","id":7,"body":"hi"}"#,
+                "put",
+                7,
+                b"\0\0\0\0\0\0\0\x07\0\x04\0\0\0\0\0\x02hi",
+            ),
+            (
+                br#"{"do":"put","actor":"a","queue":"q","id":7,"body":""}"#,
+                "put",
+                7,
+                b"\0\0\0\0\0\0\0\x07\0\x04\0\0\0\0\0\0",
+            ),
+            (
+                br#"{"do":"put","actor":"a","queue":"q","id":300,"body":"0123456789abcdefghijklmnopqrstuvwxyzABCDEFGHIJKLMNOPQRSTUVWXYZ01"}"#,
+                "put",
+                300,
+                b"\0\0\0\0\0\0\x01\x2c\0\x04\0\0\0\0\0\x400123456789abcdefghijklmnopqrstuvwxyzABCDEFGHIJKLMNOPQRSTUVWXYZ01",
+            ),
+            (
+                br#"{"do":"put","actor":"a","queue":"q","id":7,"body":"0123456789abcdefghijklmnopqrstuvwxyzABCDEFGHIJKLMNOPQRSTUVWXYZ012"}"#,
+                "none",
+                0,
+                b"",
+            ),
+            (
+                br#"{"do":"put","actor":"a","queue":"q","id":0,"body":"hi"}"#,
+                "put",
+                0,
+                b"\0\0\0\0\0\0\0\0\0\x04\0\0\0\0\0\x02hi",
+            ),
+            (
+                br#"{"do":"put","actor":"a","queue":"q","id":00,"body":"hi"}"#,
+                "none",
+                0,
+                b"",
+            ),
+            (
+                br#"{"do":"put","actor":"a","queue":"q","id":007,"body":"hi"}"#,
+                "none",
+                0,
+                b"",
+            ),
+            (
+                br#"{"do":"put","actor":"a","queue":"q","id":999999999999999999,"body":"x"}"#,
+                "put",
+                999_999_999_999_999_999,
+                b"\x0d\xe0\xb6\xb3\xa7\x63\xff\xff\0\x04\0\0\0\0\0\x01x",
+            ),
+            (
+                br#"{"do":"put","actor":"a","queue":"q","id":1000000000000000000,"body":"x"}"#,
+                "none",
+                0,
+                b"",
+            ),
+            (
+                br#"{"do":"put","actor":"a","queue":"q","id":-1,"body":"hi"}"#,
+                "none",
+                0,
+                b"",
+            ),
+            (
+                br#"{"do":"put","actor":"a","queue":"q","id":7,"body":"h i"}"#,
+                "none",
+                0,
+                b"",
+            ),
+            (
+                br#"{"do":"put","actor":"a","queue":"q","id":7,"body":"h"i"}"#,
+                "none",
+                0,
+                b"",
+            ),
+            (
+                br#"{"do":"put","actor":"a","queue":"q","id":7,"body":"hi"} "#,
+                "none",
+                0,
+                b"",
+            ),
+            (
+                br#"{"do":"put","actor":"a","queue":"q","id":7,"body":"hi""#,
+                "none",
+                0,
+                b"",
+            ),
+            (
+                br#"{"do":"take","actor":"a","consumer":"c"}"#,
+                "take",
+                0,
+                b"",
+            ),
+            (
+                br#"{"do":"take","actor":"a","consumer":"d"}"#,
+                "none",
+                0,
+                b"",
+            ),
+            (
+                br#"{"do":"ack","actor":"a","queue":"q","id":7}"#,
+                "ack",
+                7,
+                b"",
+            ),
+            (
+                br#"{"do":"ack","actor":"a","queue":"q","id":}"#,
+                "none",
+                0,
+                b"",
+            ),
+            (
+                br#"{"do":"ack","actor":"a","queue":"q","id":07}"#,
+                "none",
+                0,
+                b"",
+            ),
+            (b"", "none", 0, b""),
+        ];
+        for (text, kind, id, content) in cases {
+            let read = read_line(rt.alloc(), text)?;
+            let (said, said_id, said_content) = parts(&read);
+            assert_eq!(rt; said, kind);
+            assert_eq!(rt; said_id, id);
+            assert_eq!(rt; said_content, content);
+        }
+        Ok(())
+    }
 }

@@ -1,4 +1,4 @@
-use Rattle.std.proofs.Common.{◌≡◌, ◌<◌, length, sym, subst, arith}
+use Rattle.std.proofs.Common.{◌<◌, length, sym, subst, arith}
 use Rattle.broker_top.proofs.LineTexts.{front_alone, is_empty_tells, not_empty_tells, number_bounds, number_front, number_of_digits}
 use Rattle.broker_top.specs.Texts.{IsNumber}
 use Rattle.broker_top.proofs.reading_lines.number_of.Goals as goal
@@ -8,10 +8,10 @@ pub returns-then-is_empty : goal.returns-then-is_empty
 returns-then-is_empty c n h =
     let within = number_bounds c.args.digits.now n h in
     elim c.then-is_empty.branch [
-    | then-is_empty-via-then-is_empty w ↦
-        let none = is_empty_tells (length c.args.digits.now) c.is_empty.result c.is_empty.ensures w.if-is_empty.true in
-        omega arith
-    | then-is_empty-via-else-is_empty+then-digits-gt-MOST_DIGITS w ↦ let many = w.if-digits-gt-MOST_DIGITS in omega arith
+      | then-is_empty-via-then-is_empty w ↦
+          let none = is_empty_tells (length c.args.digits.now) c.is_empty.result c.is_empty.ensures w.if-is_empty.true in
+          omega arith
+      | then-is_empty-via-else-is_empty+then-digits-gt-MOST_DIGITS w ↦ let many = w.if-digits-gt-MOST_DIGITS in omega arith
     ]
 
 pub returns-then-digits-gt1 : goal.returns-then-digits-gt1

@@ -1,7 +1,5 @@
-use Rattle.std.proofs.Common.{◌≡◌, List, ℕ, sym, subst}
 use Rattle.broker_top.proofs.LineTexts.{slices_differ}
-use Rattle.broker_top.proofs.OneLine.{ack_is, ack_number, ack_tail}
-use Rattle.broker_top.specs.Texts.{IsAck, IsNumberFirst}
+use Rattle.broker_top.proofs.OneLine.{ack_tail}
 use Rattle.broker_top.proofs.reading_lines.read_ack.Goals as goal
 
 pub returns-in_err-rest : goal.returns-in_err-rest

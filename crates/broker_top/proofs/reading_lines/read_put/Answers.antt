@@ -1,8 +1,8 @@
-use Rattle.std.proofs.Common.{◌≡◌, ◌≤◌, List, ℕ, length, sym, subst}
+use Rattle.std.proofs.Common.{◌≤◌, List, ℕ, length, sym, subst}
 use Rattle.std.specs.List.{AllPass}
 use Rattle.std.proofs.lemmas.Bool.{false≢true}
 use Rattle.broker_top.proofs.OneLine.{put_tail, put_left, put_body}
-use Rattle.broker_top.specs.Texts.{IsPut, is_plain}
+use Rattle.broker_top.specs.Texts.{is_plain}
 use Rattle.broker_top.proofs.reading_lines.read_put.Goals as goal
 
 pub returns-in_err-rest : goal.returns-in_err-rest

@@ -1,4 +1,4 @@
-use Rattle.std.proofs.Common.{◌≡◌, ◌<◌, ◌≤◌, ◌+◌, ◌-◌, ◌*◌, get_or, length, arith}
+use Rattle.std.proofs.Common.{get_or, arith}
 use Rattle.broker_top.proofs.LineTexts.{bound_step, digit_worth, value_fits, value_step}
 use Rattle.broker_top.proofs.reading_lines.value_of.Goals as goal
 
