@@ -1,2 +1,5 @@
 pub mod Message
 pub mod Texts
+pub mod Script
+pub mod Run
+pub mod Ends
