@@ -1,5 +1,6 @@
-pub mod LineFeeds
-pub mod Scripts
 pub mod IdSets
+pub mod LineFeeds
+pub mod LineTexts
+pub mod OneLine
 pub mod Runs
-pub mod Stub
+pub mod Scripts

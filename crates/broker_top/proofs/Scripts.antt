@@ -10,6 +10,8 @@ use Rattle.broker_top.specs.declared.lines.Line.TheVariants.{Put, Take, Ack}
 use Rattle.broker_top.specs.Texts.{definitions_text, IsLine, SaysOneLine}
 use Rattle.broker_top.specs.Script.{IsScript, IsFirstRefused, put_ids, most_puts, lines_of, input_lines}
 use Rattle.broker_top.specs.Ids.{FitsAfter}
+use Rattle.broker_top.specs.Fits.{IsSmall, AreSmall}
+use Rattle.broker_top.specs.Message.{message_bytes}
 
 -- Ids
 
@@ -148,3 +150,24 @@ further_line (b ∷ rest) text tail some e = e
 pub nothing_further : (rest : List ℕ) → length rest ≡ 0 → lines_of rest ≡ []
 nothing_further [] e = refl
 nothing_further (b ∷ rest) e = absurd (omega (arith, e))
+
+-- Contents are small
+
+message_length : (id : ℕ) (body : List ℕ) → length (message_bytes id body) ≡ 16 + length body
+message_length id body = ?
+
+small_line : (text : List ℕ) (l : Line) → IsLine text l → IsSmall l
+small_line text (Put id content) says =
+    omega (arith, ap (λ (xs : List ℕ). length xs) says.2, message_length id says.0, says.1.short)
+small_line text Take says = tt
+small_line text (Ack id) says = tt
+
+small_lines : (texts : List (List ℕ)) (ls : List Line) → AllZip IsLine texts ls → AreSmall ls
+small_lines [] [] z = tt
+small_lines [] (l ∷ ls) z = absurd z
+small_lines (t ∷ texts) [] z = absurd z
+small_lines (t ∷ texts) (l ∷ ls) z = (small_line t l z.0, small_lines texts ls z.1)
+
+-- the lines of a script fit an empty queue
+pub script_small : (texts : List (List ℕ)) (ls : List Line) → IsScript texts ls → AreSmall ls
+script_small texts ls s = small_lines s.rest ls s.says

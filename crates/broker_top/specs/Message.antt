@@ -1,5 +1,5 @@
 -- the bytes of a message without headers (docs/FORMATS.md)
-use Rattle.std.specs.Prelude.{ℕ, List, [], ◌∷◌, ◌++◌, length}
+use Rattle.std.specs.Prelude.{ℕ, List, ◌∷◌, ◌++◌, length}
 use Rattle.std.specs.Int.{to_be_bytes, w32, w64}
 
 -- the id; not persistent; priority 4; no headers; the body's length and the body

@@ -1,5 +1,6 @@
 -- the texts that a script is made of (docs/SCRIPT.md)
-use Rattle.std.specs.Prelude.{◌≡◌, ℕ, ◌^◌, ◌<◌, ◌≤◌, Bool, ◌||◌, ◌&&◌, nat_le, List, [], ◌∷◌, ◌++◌, length, codes}
+use Rattle.std.specs.Prelude.{◌≡◌, ℕ, ◌^◌, ◌<◌, ◌≤◌, Bool, false, ◌||◌, ◌&&◌, nat_le, List, ◌++◌, length, slice_index, codes}
+use Rattle.std.specs.Char.{is_ascii_digit}
 use Rattle.std.specs.List.{AllPass}
 use Rattle.std.specs.Fmt.{decimal}
 use Rattle.broker_top.specs.declared.lines.Line.{Line}
@@ -33,6 +34,17 @@ pub record IsPut (text : List ℕ) (id : ℕ) (body : List ℕ) : Type 0 where
 pub record IsAck (text : List ℕ) (id : ℕ) : Type 0 where
   pub is : text ≡ ack_text id
   pub small : id < 10 ^ 18
+
+-- the text is this number in at most 18 digits, without leading zeros
+pub record IsNumber (text : List ℕ) (number : ℕ) : Type 0 where
+  pub is : text ≡ decimal number
+  pub small : number < 10 ^ 18
+
+-- the text begins with this number, and what stands after it begins with no digit
+pub record IsNumberFirst (text : List ℕ) (number : ℕ) (rest : List ℕ) : Type 0 where
+  pub is : text ≡ decimal number ++ rest
+  pub small : number < 10 ^ 18
+  pub ends : is_ascii_digit (slice_index rest 0) ≡ false
 
 -- the text says this line
 abbrev pub IsLine : List ℕ → Line → Type 0

@@ -2,15 +2,13 @@
 ghost use Rattle.std.specs.Prelude.{◌≡◌, ◌↔◌, IsTrue, map, string_bytes};
 ghost use Rattle.broker_top.specs.Ends.{Ends, IsRun, Tells};
 
-use std::alloc::Global;
-
-use acts_core::NoMemory;
-use outside_io::{Sink, Source, write_all};
-
 use crate::input::{Input, read_input};
 use crate::run::run;
 use crate::script::{InputFault, read_script};
 use crate::status::Status;
+use acts_core::NoMemory;
+use outside_io::{Sink, Source, write_all};
+use std::alloc::Global;
 
 /// The greatest input, in bytes.
 pub const INPUT_LIMIT: usize = 67_108_864;

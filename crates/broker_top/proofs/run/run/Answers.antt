@@ -15,10 +15,10 @@ running-preserved c =
     let before = string_bytes c.running.text in
     record {
       told =
-        ap (λ t. t ++ answers_text (n + 1) new ls) c.in_ok-run_line.ensures.told
-        ∙ append_assoc before (answer_text n (answer_of q line)) (answers_text (n + 1) new ls)
-        ∙ ap (λ t. before ++ t) (sym (text_next n q new line ls steps))
-        ∙ (rw c.in-Some.ensures.items at c.running.invariant.told);
+          ap (λ t. t ++ answers_text (n + 1) new ls) c.in_ok-run_line.ensures.told
+          ∙ append_assoc before (answer_text n (answer_of q line)) (answers_text (n + 1) new ls)
+          ∙ ap (λ t. before ++ t) (sym (text_next n q new line ls steps))
+          ∙ (rw c.in-Some.ensures.items at c.running.invariant.told);
       state = sym (state_next q new line ls steps) ∙ (rw c.in-Some.ensures.items at c.running.invariant.state);
       legal = λ h. (rw c.in-Some.ensures.items at c.running.invariant.legal) (legal_next q new line ls steps h);
       room = room_kept q new line ls steps (rw c.in-Some.ensures.items at c.running.invariant.room);
