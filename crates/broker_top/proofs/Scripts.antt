@@ -154,7 +154,7 @@ nothing_further (b ∷ rest) e = absurd (omega (arith, e))
 -- Contents are small
 
 message_length : (id : ℕ) (body : List ℕ) → length (message_bytes id body) ≡ 16 + length body
-message_length id body = ?
+message_length id body = omega arith
 
 small_line : (text : List ℕ) (l : Line) → IsLine text l → IsSmall l
 small_line text (Put id content) says =

@@ -59,10 +59,10 @@ pub fn run_command<S: Source, K: Sink>(
     let lines = match read_script(alloc, &bytes) {
         Ok(lines) => lines,
         Err(InputFault::NotBuilt { line }) => {
-            return match format!(in alloc; "fault: line {line}: NotBuilt\n") {
-                Ok(text) => tell(out, Status::InputRefused, text.as_bytes()),
-                Err(_) => tell(out, Status::NoMemory, b"fault: memory\n"),
+            let Ok(text) = format!(in alloc; "fault: line {line}: NotBuilt\n") else {
+                return tell(out, Status::NoMemory, b"fault: memory\n");
             };
+            return tell(out, Status::InputRefused, text.as_bytes());
         }
         Err(InputFault::NoMemory) => return tell(out, Status::NoMemory, b"fault: memory\n"),
     };
