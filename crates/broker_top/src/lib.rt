@@ -14,3 +14,6 @@ pub use lines::{Answer, Line};
 pub use script::InputFault;
 pub use status::Status;
 pub use top::{INPUT_LIMIT, run_command};
+
+#[cfg(test)]
+mod tests;
