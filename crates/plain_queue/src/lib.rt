@@ -139,3 +139,6 @@ impl PlainQueue {
         Some((row.slip.id, row.slip.size, row.state))
     }
 }
+
+#[cfg(test)]
+mod tests;
