@@ -6,6 +6,7 @@ ghost use Rattle.std.specs.Prelude.{◌≡◌, ◌≤◌, ◌<◌, length, OnOk,
 ghost use Rattle.std.specs.Option.{option_map};
 ghost use Rattle.acts_core.specs.History.{Does};
 ghost use Rattle.acts_core.specs.State.{depth, empty, entries};
+ghost use Rattle.acts_core.specs.Table.{most_bytes, most_entries};
 ghost use Rattle.plain_queue.specs.Calls.{ack_acts, Handles, put_acts, release_acts, Takes};
 
 pub mod laws;
@@ -51,8 +52,8 @@ impl PlainQueue {
     /// Reserves an entry and enqueues a message at the end, whoever calls. Its size is the length of its
     /// content, in bytes. Refuses only for want of memory, and then nothing changed.
     pub fn put(&mut self, id: u64, content: Bytes) -> Result<(), NoMemory>
-        requires size { length content ≤ 1048576 }
-        requires room { entries self.old < 524288 }
+        requires size { length content ≤ most_bytes }
+        requires room { entries self.old < most_entries }
         ensures ok { OnOk result ((caller : ℕ) → Does self.old caller (put_acts self.old id content) self.new) }
         ensures err { OnErr result (self.new ≡ self.old) }
     {
