@@ -6,8 +6,8 @@ use Rattle.acts_core.specs.declared.deeds.Unapplied.TheVariants.{Illegal, NoMemo
 use Rattle.acts_core.specs.declared.queues.Queue.{Queue}
 use Rattle.acts_core.specs.Table.{Can, acted}
 
--- Ok: the deed had a step, and it was done. Illegal: it had none. Each refusal hands the deed back and changes nothing.
+-- Ok: the deed had a step, and it was done. Illegal: it had none. NoMemory: it had one. Each refusal hands the deed back and changes nothing.
 abbrev pub Applies : Result (Unit {0}) Unapplied → Queue → Queue → Deed → Type 0
 Applies (Ok u) old new d = Can old d.caller d.act × (new ≡ acted old d.caller d.act)
 Applies (Err (Illegal e)) old new d = (Can old d.caller d.act → ⊥) × (e ≡ d) × (new ≡ old)
-Applies (Err (NoMemory e)) old new d = (e ≡ d) × (new ≡ old)
+Applies (Err (NoMemory e)) old new d = Can old d.caller d.act × (e ≡ d) × (new ≡ old)

@@ -44,7 +44,7 @@ OwnAppend = (h : ℕ) (ds es : List Deed) → own h (ds ++ es) ≡ own h ds ++ o
 abbrev pub OwnMine : Type 0
 OwnMine = (d : Deed) → own d.caller (d ∷ []) ≡ d ∷ []
 
--- and no other's
+-- a deed is none of another caller's
 abbrev pub OwnOther : Type 0
 OwnOther = (h : ℕ) (d : Deed) → d.caller ≢ h → own h (d ∷ []) ≡ []
 
@@ -54,7 +54,7 @@ OwnOther = (h : ℕ) (d : Deed) → d.caller ≢ h → own h (d ∷ []) ≡ []
 abbrev pub PrefixSelf : Type 0
 PrefixSelf = (xs : List Deed) → IsPrefix xs xs
 
--- and of each history that goes on from it
+-- a history is a prefix of each history that goes on from it
 abbrev pub PrefixMore : Type 0
 PrefixMore = (xs ys : List Deed) → IsPrefix xs (xs ++ ys)
 
@@ -108,7 +108,7 @@ RowAppend = (r : ℕ) (xs ys : List Row) (x : Row) → find (is_row r) xs ≡ So
 abbrev pub RowPush : Type 0
 RowPush = (r : ℕ) (xs : List Row) (y : Row) → find (is_row r) xs ≡ None → y.number ≡ r → find (is_row r) (xs ++ y ∷ []) ≡ Some y
 
--- and by no other
+-- a new row at the end is found by no other number
 abbrev pub RowPushOther : Type 0
 RowPushOther = (r : ℕ) (xs : List Row) (y : Row) → y.number ≢ r → find (is_row r) (xs ++ y ∷ []) ≡ find (is_row r) xs
 
@@ -116,11 +116,11 @@ RowPushOther = (r : ℕ) (xs : List Row) (y : Row) → y.number ≢ r → find (
 abbrev pub RowNumber : Type 0
 RowNumber = (q : Queue) (r : ℕ) (x : Row) → row_at q r ≡ Some x → x.number ≡ r
 
--- the changed row
+-- a row that is changed is found as it became
 abbrev pub RowHere : Type 0
 RowHere = (q : Queue) (r : ℕ) (f : Row → Row) (x : Row) → row_at q r ≡ Some x → (f x).number ≡ r → row_at (changed q r f) r ≡ Some (f x)
 
--- the others
+-- a change of one row leaves the other rows of the queue
 abbrev pub RowElsewhere : Type 0
 RowElsewhere = (q : Queue) (r s : ℕ) (f : Row → Row) → r ≢ s → ((x : Row) → (f x).number ≡ x.number) → row_at (changed q r f) s ≡ row_at q s
 
@@ -136,7 +136,7 @@ ReservedAlterOther = (h k : ℕ) (f : Option Reservation → Option Reservation)
 abbrev pub ReservedPush : Type 0
 ReservedPush = (h : ℕ) (xs : List Reservation) (v : Reservation) → find (is_holder h) xs ≡ None → v.holder ≡ h → find (is_holder h) (xs ++ v ∷ []) ≡ Some v
 
--- and by no other
+-- a new reservation at the end is found by no other holder
 abbrev pub ReservedPushOther : Type 0
 ReservedPushOther = (h : ℕ) (xs : List Reservation) (v : Reservation) → v.holder ≢ h → find (is_holder h) (xs ++ v ∷ []) ≡ find (is_holder h) xs
 
@@ -160,7 +160,7 @@ KeepsDepth (Reserve size) = ⊥
 KeepsDepth (GiveBack size) = ⊥
 KeepsDepth a = Unit {0}
 
--- all acts but these two leave the depth as it is
+-- all acts but Reserve and GiveBack leave the depth as it is
 abbrev pub DepthKept : Type 0
 DepthKept = (q : Queue) (h : ℕ) (a : Act) → Can q h a → KeepsDepth a → (entries (acted q h a) ≡ entries q) × (bytes (acted q h a) ≡ bytes q)
 
@@ -178,7 +178,7 @@ SoundOpening = (q : Queue) → IsOpening q → Sound q
 abbrev pub SoundStep : Type 0
 SoundStep = (q : Queue) (h : ℕ) (a : Act) → Can q h a → Sound q → Sound (acted q h a)
 
--- and so does a legal history
+-- a legal history leaves a sound state sound
 abbrev pub SoundAfter : Type 0
 SoundAfter = (q : Queue) (ds : List Deed) → Sound q → Legal q ds → Sound (after q ds)
 
@@ -195,7 +195,7 @@ pub record SameGoods (x y : Row) : Type 0 where
 abbrev pub RowStep : Type 0
 RowStep = (q : Queue) (h : ℕ) (a : Act) (r : ℕ) (x : Row) → row_at q r ≡ Some x → (y : Row) × (row_at (acted q h a) r ≡ Some y) × SameGoods x y
 
--- in a history too
+-- a row keeps its number, slip, content and origin in a history
 abbrev pub RowStays : Type 0
 RowStays = (q : Queue) (ds : List Deed) (r : ℕ) (x : Row) → row_at q r ≡ Some x → (y : Row) × (row_at (after q ds) r ≡ Some y) × SameGoods x y
 
@@ -203,7 +203,7 @@ RowStays = (q : Queue) (ds : List Deed) (r : ℕ) (x : Row) → row_at q r ≡ S
 abbrev pub NewStep : Type 0
 NewStep = (q : Queue) (h : ℕ) (a : Act) (r : ℕ) → row_at (acted q h a) r ≡ None → row_at q r ≡ None
 
--- nor one that the state after a history has not
+-- a row number that the state after a history has not the state before had not
 abbrev pub NewStays : Type 0
 NewStays = (q : Queue) (ds : List Deed) (r : ℕ) → row_at (after q ds) r ≡ None → row_at q r ≡ None
 
@@ -211,55 +211,55 @@ NewStays = (q : Queue) (ds : List Deed) (r : ℕ) → row_at (after q ds) r ≡ 
 abbrev pub ListStep : Type 0
 ListStep = (q : Queue) (h : ℕ) (a : Act) (r : ℕ) (x : Row) → row_at q r ≡ Some x → list_at (acted q h a) r ≡ list_at q r
 
--- in a history too
+-- a row keeps its list in a history
 abbrev pub ListStays : Type 0
 ListStays = (q : Queue) (ds : List Deed) (r : ℕ) (x : Row) → row_at q r ≡ Some x → list_at (after q ds) r ≡ list_at q r
 
--- and its place in its list
+-- a row keeps its place in its list in a step
 abbrev pub PlaceStep : Type 0
 PlaceStep = (q : Queue) (h : ℕ) (a : Act) (r : ℕ) (x : Row) → row_at q r ≡ Some x → place_at (acted q h a) r ≡ place_at q r
 
--- in a history too
+-- a row keeps its place in its list in a history
 abbrev pub PlaceStays : Type 0
 PlaceStays = (q : Queue) (ds : List Deed) (r : ℕ) (x : Row) → row_at q r ≡ Some x → place_at (after q ds) r ≡ place_at q r
 
--- a row that h holds is the very same row, with its count, while others act
+-- a row that h holds is the very same row, with its count, after a step of another
 abbrev pub HeldRowStep : Type 0
 HeldRowStep = (q : Queue) (k h : ℕ) (a : Act) (r : ℕ) (x : Row) → k ≢ h → Can q k a → row_at q r ≡ Some x → x.state ≡ Locked h → row_at (acted q k a) r ≡ Some x
 
--- and so it is while a history of others goes on
+-- a row that h holds is the very same row, with its count, after a history of others
 abbrev pub HeldRowStays : Type 0
 HeldRowStays = (q : Queue) (ds : List Deed) (h r : ℕ) (x : Row) → own h ds ≡ [] → Legal q ds → row_at q r ≡ Some x → x.state ≡ Locked h → row_at (after q ds) r ≡ Some x
 
--- it stays held in a step of another
+-- a row that h holds stays held in a step of another
 abbrev pub HeldStep : Type 0
 HeldStep = (q : Queue) (k h : ℕ) (a : Act) (r : ℕ) → k ≢ h → Can q k a → IsIn q r (Locked h) → IsIn (acted q k a) r (Locked h)
 
--- in a history too
+-- a row that h holds stays held in a history of others
 abbrev pub HeldStays : Type 0
 HeldStays = (q : Queue) (ds : List Deed) (h r : ℕ) → own h ds ≡ [] → Legal q ds → IsIn q r (Locked h) → IsIn (after q ds) r (Locked h)
 
--- what h has reserved stays while others act
+-- what h has reserved stays in a step of another
 abbrev pub ReservedStep : Type 0
 ReservedStep = (q : Queue) (k h : ℕ) (a : Act) → k ≢ h → reserved_by (acted q k a) h ≡ reserved_by q h
 
--- in a history too
+-- what h has reserved stays in a history of others
 abbrev pub ReservedStays : Type 0
 ReservedStays = (q : Queue) (ds : List Deed) (h : ℕ) → own h ds ≡ [] → reserved_by (after q ds) h ≡ reserved_by q h
 
--- a deleted row stays deleted
+-- a deleted row stays deleted in a step
 abbrev pub DeletedStep : Type 0
 DeletedStep = (q : Queue) (h : ℕ) (a : Act) (r : ℕ) → Can q h a → IsIn q r Deleted → IsIn (acted q h a) r Deleted
 
--- in a history too
+-- a deleted row stays deleted in a history
 abbrev pub DeletedStays : Type 0
 DeletedStays = (q : Queue) (ds : List Deed) (r : ℕ) → Legal q ds → IsIn q r Deleted → IsIn (after q ds) r Deleted
 
--- a row that is dequeued or deleted stays dequeued or deleted
+-- a row that is dequeued or deleted stays so in a step
 abbrev pub GoneStep : Type 0
 GoneStep = (q : Queue) (h : ℕ) (a : Act) (r : ℕ) → Can q h a → IsIn q r Dequeued ⊎ IsIn q r Deleted → IsIn (acted q h a) r Dequeued ⊎ IsIn (acted q h a) r Deleted
 
--- in a history too
+-- a row that is dequeued or deleted stays so in a history
 abbrev pub GoneStays : Type 0
 GoneStays = (q : Queue) (ds : List Deed) (r : ℕ) → Legal q ds → IsIn q r Dequeued ⊎ IsIn q r Deleted → IsIn (after q ds) r Dequeued ⊎ IsIn (after q ds) r Deleted
 
@@ -269,16 +269,16 @@ LeavesBell q c l (Bell r d) = d ≡ c → list_at q r ≢ l
 LeavesBell q c l (Take d m) = d ≡ c → m ≢ l
 LeavesBell q c l a = Unit {0}
 
--- each act does, where it stands
+-- each act of a history leaves the bell of consumer c at list l, where it stands
 abbrev pub LeaveBell : Queue → ℕ → ℕ → List Deed → Type 0
 LeaveBell q c l [] = Unit {0}
 LeaveBell q c l (d ∷ ds) = LeavesBell q c l d.act × LeaveBell (acted q d.caller d.act) c l ds
 
--- a bell changes only where it is rung or taken
+-- a step changes a bell only where it is rung or taken
 abbrev pub BellStep : Type 0
 BellStep = (q : Queue) (h : ℕ) (a : Act) (c l : ℕ) → LeavesBell q c l a → bell_at (acted q h a) c l ≡ bell_at q c l
 
--- in a history too
+-- a history changes a bell only where it is rung or taken
 abbrev pub BellStays : Type 0
 BellStays = (q : Queue) (ds : List Deed) (c l : ℕ) → LeaveBell q c l ds → bell_at (after q ds) c l ≡ bell_at q c l
 
@@ -328,7 +328,7 @@ with_less v size = record v { entries = v.entries - 1; bytes = v.bytes - size }
 abbrev pub OwnReserve : Type 0
 OwnReserve = (q : Queue) (h size : ℕ) → reserved_by (acted q h (Reserve size)) h ≡ with_more (reserved_by q h) size
 
--- a dequeued row becomes reserved
+-- a caller's reservation after it dequeued a row: the row's entry and bytes come to it
 abbrev pub OwnDequeue : Type 0
 OwnDequeue = (q : Queue) (h r : ℕ) → reserved_by (acted q h (Deq r)) h ≡ with_more (reserved_by q h) (size_at q r)
 
@@ -336,16 +336,16 @@ OwnDequeue = (q : Queue) (h r : ℕ) → reserved_by (acted q h (Deq r)) h ≡ w
 abbrev pub OwnGiveBack : Type 0
 OwnGiveBack = (q : Queue) (h size : ℕ) → Sound q → Can q h (GiveBack size) → reserved_by (acted q h (GiveBack size)) h ≡ with_less (reserved_by q h) size
 
--- a new row takes the place of what was reserved
+-- a caller's reservation after it enqueued a row: the row's entry and bytes leave it
 abbrev pub OwnEnqueue : Type 0
 OwnEnqueue = (q : Queue) (h r : ℕ) (slip : Slip) (content origin : List ℕ) (n : ℕ) → Sound q → Can q h (Enq r slip content origin n) → reserved_by (acted q h (Enq r slip content origin n)) h ≡ with_less (reserved_by q h) slip.size
 
--- the new row is there
+-- an enqueued row is there, and available
 abbrev pub OwnEnqueued : Type 0
 OwnEnqueued = (q : Queue) (h r : ℕ) (slip : Slip) (content origin : List ℕ) (n : ℕ) → Can q h (Enq r slip content origin n)
     → row_at (acted q h (Enq r slip content origin n)) r ≡ Some (record { number = r; slip = slip; state = Available; content = content; origin = origin; count = n })
 
--- and it is the last of its list
+-- an enqueued row is the last of its list
 abbrev pub OwnEnqueuedLast : Type 0
 OwnEnqueuedLast = (q : Queue) (h r : ℕ) (slip : Slip) (content origin : List ℕ) (n : ℕ) → Can q h (Enq r slip content origin n) → place_at (acted q h (Enq r slip content origin n)) r ≡ length (rows_of q slip.list)
 
@@ -381,7 +381,7 @@ LockStays = (o : Queue) (s0 s1 : List Deed) (h r : ℕ) (acts : List Act) → Is
 abbrev pub Gains : Type 0
 Gains = (o : Queue) (s0 s1 : List Deed) (h r : ℕ) (a : Act) → IsPrefix s0 s1 → Legal o s1 → own h s1 ≡ own h s0 ++ deeds_of h (a ∷ []) → GainsLock r a → IsIn (after o s1) r (Locked h) × ((x : ℕ) → IsIn (after o s0) x (Locked h) → x ≢ r)
 
--- a caller whose one new act acquires an available row
+-- a caller whose one new act acquires an available row holds it, and each row that it held before is another
 abbrev pub Acquires : Type 0
 Acquires = (o : Queue) (s0 s1 : List Deed) (h r : ℕ) → IsPrefix s0 s1 → Legal o s1 → own h s1 ≡ own h s0 ++ deeds_of h (Acq r ∷ []) → IsIn (after o s1) r (Locked h) × ((x : ℕ) → IsIn (after o s0) x (Locked h) → x ≢ r)
 
@@ -395,7 +395,7 @@ PrecedesTotal = (o : Order) (q : Queue) (x y : Row) → row_at q x.number ≡ So
 abbrev pub PrecedesNot : Type 0
 PrecedesNot = (o : Order) (q : Queue) (x : Row) → Precedes o q x x → ⊥
 
--- what comes before the second comes before the third
+-- a row that comes before a second comes before each row that the second comes before
 abbrev pub PrecedesTrans : Type 0
 PrecedesTrans = (o : Order) (q : Queue) (x y z : Row) → Precedes o q x y → Precedes o q y z → Precedes o q x z
 
@@ -407,7 +407,7 @@ OlderTotal = (o : Order) (q : Queue) (x y : Row) → row_at q x.number ≡ Some 
 abbrev pub OlderNot : Type 0
 OlderNot = (o : Order) (q : Queue) (x : Row) → IsOlder o q x x → ⊥
 
--- what is older than the second is older than the third
+-- a row that is older than a second is older than each row that the second is older than
 abbrev pub OlderTrans : Type 0
 OlderTrans = (o : Order) (q : Queue) (x y z : Row) → IsOlder o q x y → IsOlder o q y z → IsOlder o q x z
 

@@ -34,20 +34,24 @@ pub enum Placed<C> {
         row: u64,
         displaced: Option<(u64, C)>,
     },
-    /// The caller has no rows left to draw. The reservation stays.
+    /// Nothing was put: the caller has no rows left to draw. The cargo comes back, and the reservation
+    /// stays.
     Spent(C),
 }
 
 /// The answer to a call for the next entry.
 #[derive(Debug, Drop)]
 pub enum Next<C> {
+    /// The caller now holds this row.
     Got { row: u64, cargo: C },
+    /// There is no entry for the caller to take.
     Empty,
 }
 
 /// The answer to a lock of a row that the caller had unlocked.
 #[derive(Debug, Drop)]
 pub enum Locking<C> {
+    /// The caller holds the row again.
     Locked(C),
     /// The row is no longer the caller's. It was seen in this state.
     Stolen(RowState),
@@ -56,14 +60,17 @@ pub enum Locking<C> {
 /// The answer to a release.
 #[derive(Debug, Drop)]
 pub enum Releasing<C> {
+    /// The row is available again.
     Released,
-    /// On a last-value queue a later entry of the same key has come, and the row stays held.
+    /// On a last-value queue a later entry of the same key has come. The row stays held, and its cargo
+    /// comes back.
     Outdated(C),
 }
 
 /// The answer to a steal.
 #[derive(Debug, Drop)]
 pub enum Stealing<C> {
+    /// The caller now holds the row.
     Stolen(C),
     /// The row was not unlocked by anyone. It was seen in this state.
     NotStealable(RowState),

@@ -4,7 +4,7 @@ use crate::rows::Slip;
 use thiserror::Error;
 
 /// One change of a queue. docs/QUEUE-MODEL.md, "The table of acts", says when each has a step and what
-/// it does.
+/// it does; contracts say it by `Can` and `acted` of specs/Table.antt. Sizes are in bytes.
 #[derive(Debug, Drop)]
 pub enum Act {
     /// Acquires an available row.
@@ -37,15 +37,18 @@ pub enum Act {
     Del {
         row: u64,
     },
-    /// Reserves one entry of this size.
+    /// Reserves one entry of this size, of `MOST_BYTES` at most, while the queue has fewer entries than
+    /// `MOST_ENTRIES`.
     Reserve {
         size: u64,
     },
-    /// Gives one reserved entry of this size back.
+    /// Gives one reserved entry of this size back. No more bytes may be left than the entries left can
+    /// have.
     GiveBack {
         size: u64,
     },
-    /// Appends a new row to its list, in place of a reserved entry of its size.
+    /// Appends a new row to its list, in place of a reserved entry of its size. No row has its number, and
+    /// the queue has its list and each consumer of its mask.
     Enq {
         row: u64,
         slip: Slip,
@@ -53,12 +56,13 @@ pub enum Act {
         origin: Origin,
         count: u32,
     },
-    /// Rings the bell of a consumer for a row.
+    /// Rings the bell of a consumer for a row. Where the bell was rung before at that list, the earlier
+    /// row of the two stands.
     Bell {
         row: u64,
         consumer: u32,
     },
-    /// Takes the bell of a consumer at a list.
+    /// Takes the bell of a consumer at a list, whether it was rung or not.
     Take {
         consumer: u32,
         list: u32,
@@ -78,6 +82,7 @@ pub enum Unapplied {
     /// The table of acts has no step for this deed in this state.
     #[error("the deed has no step in this state")]
     Illegal(Deed),
+    /// The deed has a step, and there was no memory for it.
     #[error("out of memory")]
     NoMemory(Deed),
 }

@@ -109,7 +109,7 @@ pub fn locks()
     ensures acquires { Acquires }
 {}
 
-/// Of two rows of a queue one comes first.
+/// Queue order and oldest order: of any two rows of a queue one comes first.
 pub fn order()
     ensures total { PrecedesTotal }
     ensures itself { PrecedesNot }

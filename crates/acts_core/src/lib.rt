@@ -19,3 +19,6 @@ pub use limits::{MOST_BYTES, MOST_ENTRIES};
 pub use queues::{Bell, Depth, Limits, Policy, Queue, Reservation};
 pub use rows::{Row, RowState, Slip};
 pub use state::QueueState;
+
+#[cfg(test)]
+mod tests;

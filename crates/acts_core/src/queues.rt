@@ -2,7 +2,8 @@
 use crate::rows::Row;
 use std::collections::LinkedList;
 
-/// How full a queue is, with what is reserved and not enqueued yet.
+/// How full a queue is, with what is reserved and not enqueued yet. The bytes are those of the messages'
+/// encodings.
 #[derive(Clone, Copy, Debug, PartialEq, Eq)]
 pub struct Depth {
     pub entries: u64,

@@ -37,7 +37,7 @@ impl Model for QueueState {
 impl QueueState {
     ghost use Rattle.acts_core.specs.Applied.{Applies};
 
-    /// A queue with so many lists and consumers, and nothing in it.
+    /// A queue with so many lists and consumers, and nothing in it. Refuses only for want of memory.
     pub fn fresh(alloc: Global, lists: u32, consumers: u32) -> Result<QueueState, NoMemory>
         ensures { IfOk result (λ q. q ≡ empty lists consumers) }
     {
@@ -50,8 +50,9 @@ impl QueueState {
         })
     }
 
-    /// Applies one deed, as the table of acts says. Illegal comes exactly where the table has no step
-    /// for it; after either refusal the state is as before.
+    /// Applies one deed, as the table of acts says. `Illegal` comes exactly where the table has no step
+    /// for it, and `NoMemory` only where it has one. Either hands the deed back, and the state is as
+    /// before.
     pub fn apply(&mut self, deed: Deed) -> Result<(), Unapplied>
         ensures { Applies result self.old self.new deed }
     {

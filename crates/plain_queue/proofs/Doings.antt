@@ -59,8 +59,8 @@ put_does rows id content h numbered small room =
     let mid : Queue = record { lists = 1; consumers = 0; rows = rows; reserved = record { holder = h; entries = 1; bytes = size } ∷ []; bells = [] } in
     does_first (one_list rows) mid _ h (Reserve size) _ (small, room) refl
     (does_first mid _ _ h (Enq (length rows) (plain_slip id content) content [] 0) [] (record { new = next_is_new 0 (length rows) rows numbered (omega arith); size = small; list = omega arith; mask = omega arith; reserved = gives_one _ h size (one_reserved h size) })
-     (ap (λ rs. record { lists = 1; consumers = 0; rows = rows ++ new_row (length rows) id content ∷ []; reserved = rs; bells = [] }) (none_reserved h size))
-     (does_none _ h))
+    (ap (λ rs. record { lists = 1; consumers = 0; rows = rows ++ new_row (length rows) id content ∷ []; reserved = rs; bells = [] }) (none_reserved h size))
+    (does_none _ h))
 
 -- Take, release, acknowledge: the row x stands at i
 
@@ -88,12 +88,12 @@ module _ (rows : List Row) (i : ℕ) (x : Row) (h : ℕ) (numbered : NumberedFro
       let held : Queue = record { lists = 1; consumers = 0; rows = out; reserved = v ∷ []; bells = [] } in
       does_first (one_list rows) held _ h (Deq x.number) _ (x, found, s)
       (ap (λ (xs : List Row). record { lists = 1; consumers = 0; rows = xs; reserved = record { holder = h; entries = 1; bytes = size_at (one_list rows) x.number } ∷ []; bells = [] }) (changed_by_number (in_state Dequeued) i rows x numbered inside here)
-       ∙ ap (λ (o : Option Row). record { lists = 1; consumers = 0; rows = out; reserved = record { holder = h; entries = 1; bytes = option_map_or (λ (z : Row). z.slip.size) o 0 } ∷ []; bells = [] }) found)
+      ∙ ap (λ (o : Option Row). record { lists = 1; consumers = 0; rows = out; reserved = record { holder = h; entries = 1; bytes = option_map_or (λ (z : Row). z.slip.size) o 0 } ∷ []; bells = [] }) found)
       (does_first held (one_list out) _ h (GiveBack x.slip.size) _ (gives_one _ h x.slip.size (one_reserved h x.slip.size))
-       (ap (λ rs. record { lists = 1; consumers = 0; rows = out; reserved = rs; bells = [] }) (none_reserved h x.slip.size))
-       (does_first (one_list out) (one_list (set rows i (in_state Deleted x))) _ h (Del x.number) [] (y, found_by_number i out y out_numbered out_inside out_here, refl)
-        (ap one_list (changed_by_number (in_state Deleted) i out y out_numbered out_inside out_here ∙ set-set rows i y (in_state Deleted x)))
-        (does_none _ h)))
+      (ap (λ rs. record { lists = 1; consumers = 0; rows = out; reserved = rs; bells = [] }) (none_reserved h x.slip.size))
+      (does_first (one_list out) (one_list (set rows i (in_state Deleted x))) _ h (Del x.number) [] (y, found_by_number i out y out_numbered out_inside out_here, refl)
+      (ap one_list (changed_by_number (in_state Deleted) i out y out_numbered out_inside out_here ∙ set-set rows i y (in_state Deleted x)))
+      (does_none _ h)))
 
 -- What the calls keep
 

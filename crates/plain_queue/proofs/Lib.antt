@@ -1,3 +1,4 @@
 pub mod Numbered
 pub mod Doings
 pub mod Answered
+pub mod FirstInOrder

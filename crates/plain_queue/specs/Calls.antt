@@ -1,5 +1,5 @@
 -- the calls of a one-thread queue of one list, and the acts that they are
-use Rattle.std.specs.Prelude.{◌≡◌, ℕ, Bool, true, false, ◌&&◌, ◌==◌, Option, Some, None, List, [], ◌∷◌, length, find}
+use Rattle.std.specs.Prelude.{◌≡◌, ◌≢◌, ℕ, Bool, true, false, ◌&&◌, ◌==◌, Option, Some, None, List, [], ◌∷◌, length, find}
 use Rattle.acts_core.specs.declared.deeds.Act.{Act}
 use Rattle.acts_core.specs.declared.deeds.Act.TheVariants.{Acq, Rel, Deq, Del, Reserve, GiveBack, Enq}
 use Rattle.acts_core.specs.declared.queues.Queue.{Queue}
@@ -8,6 +8,9 @@ use Rattle.acts_core.specs.declared.rows.RowState.{RowState}
 use Rattle.acts_core.specs.declared.rows.RowState.TheVariants.{Available, Locked}
 use Rattle.acts_core.specs.declared.rows.Slip.{Slip}
 use Rattle.acts_core.specs.History.{Does}
+use Rattle.acts_core.specs.Order.{ByList, Precedes}
+use Rattle.acts_core.specs.Sound.{Sound}
+use Rattle.acts_core.specs.State.{row_at}
 
 abbrev pub is_available : RowState → Bool
 is_available Available = true
@@ -52,3 +55,8 @@ Takes h old (Some id) new = (x : Row) × (first_available old ≡ Some x) × (id
 abbrev pub Handles : (Row → List Act) → ℕ → ℕ → Queue → Bool → Queue → Type 0
 Handles acts h id old false new = (held_row old h id ≡ None) × (new ≡ old)
 Handles acts h id old true new = (x : Row) × (held_row old h id ≡ Some x) × Does old h (acts x) new
+
+-- In a queue of one list the first available row comes before each other available row, in queue order.
+abbrev pub FirstInOrder : Type 0
+FirstInOrder = (q : Queue) (x : Row) → Sound q → q.lists ≡ 1 → first_available q ≡ Some x
+    → (row_at q x.number ≡ Some x) × (x.state ≡ Available) × ((y : Row) → row_at q y.number ≡ Some y → y.state ≡ Available → y.number ≢ x.number → Precedes ByList q x y)

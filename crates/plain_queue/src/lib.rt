@@ -6,8 +6,10 @@ ghost use Rattle.std.specs.Prelude.{◌≡◌, ◌≤◌, ◌<◌, ◌^◌, leng
 ghost use Rattle.std.specs.Option.{option_map};
 ghost use Rattle.acts_core.specs.History.{Does};
 ghost use Rattle.acts_core.specs.State.{depth, empty, entries};
+ghost use Rattle.acts_core.specs.Table.{most_bytes, most_entries};
 ghost use Rattle.plain_queue.specs.Calls.{ack_acts, Handles, put_acts, release_acts, Takes};
 
+pub mod laws;
 mod search;
 
 use acts_core::{Bytes, Depth, NoMemory, Origin, Row, RowState, Slip};
@@ -15,7 +17,8 @@ use search::{first_available, held_row};
 use std::alloc::Global;
 use std::marker::Model;
 
-/// A queue of one list and no consumers. Contracts see the state that its rows stand for.
+/// A queue of one list and no consumers. A caller is a number. Rows never leave, so memory and time
+/// grow with all that was ever put. Contracts see the state that its rows stand for.
 #[derive(Debug, Drop)]
 pub struct PlainQueue {
     rows: Vec<Row>,
@@ -46,11 +49,11 @@ impl PlainQueue {
         }
     }
 
-    /// Reserves an entry and enqueues a message, whoever calls. Refuses only for want of memory, and then
-    /// nothing changed.
+    /// Reserves an entry and enqueues a message at the end, whoever calls. Its size is the length of its
+    /// content, in bytes. Refuses only for want of memory, and then nothing changed.
     pub fn put(&mut self, id: u64, content: Bytes) -> Result<(), NoMemory>
-        requires size { length content ≤ 1048576 }
-        requires room { entries self.old < 524288 }
+        requires size { length content ≤ most_bytes }
+        requires room { entries self.old < most_entries }
         ensures ok { OnOk result ((caller : ℕ) → Does self.old caller (put_acts self.old id content) self.new) }
         ensures err { OnErr result (self.new ≡ self.old) }
     {
@@ -79,7 +82,7 @@ impl PlainQueue {
     }
 
     /// Acquires the first available row for a caller, and answers its id; none where no row is
-    /// available. It looks at the rows in turn.
+    /// available, and then nothing changed. It looks at the rows in turn.
     pub fn take(&mut self, caller: u64) -> Option<u64>
         ensures { Takes caller self.old result self.new }
     {
@@ -91,7 +94,8 @@ impl PlainQueue {
         Some(row.slip.id)
     }
 
-    /// Makes a row that the caller holds available again. Answers whether the caller holds the id.
+    /// Makes the first row of this id that the caller holds available again, at its place, and sets its
+    /// count of deliveries to 0. Answers whether the caller held one; if not, nothing changed.
     pub fn release(&mut self, caller: u64, id: u64) -> bool
         ensures { Handles release_acts caller id self.old result self.new }
     {
@@ -104,8 +108,8 @@ impl PlainQueue {
         true
     }
 
-    /// Takes a row that the caller holds out of the queue for good. Answers whether the caller holds the
-    /// id.
+    /// Takes the first row of this id that the caller holds out of the queue for good. Answers whether
+    /// the caller held one; if not, nothing changed.
     pub fn ack(&mut self, caller: u64, id: u64) -> bool
         ensures { Handles ack_acts caller id self.old result self.new }
     {
@@ -130,8 +134,8 @@ impl PlainQueue {
         }
     }
 
-    /// The id, size and state of the row at this place, from 0 in order of arrival; none where there is no
-    /// such row.
+    /// The id, size in bytes and state of the row at this place, from 0 in order of arrival; none where
+    /// there is no such row.
     pub fn row(&self, row: u64) -> Option<(u64, u64, RowState)>
         ensures row { result ≡ option_map (λ x. (x.slip.id, x.slip.size, x.state)) (slice_get self.now.rows row) }
         // A number of rows always fits.
@@ -141,3 +145,6 @@ impl PlainQueue {
         Some((row.slip.id, row.slip.size, row.state))
     }
 }
+
+#[cfg(test)]
+mod tests;
