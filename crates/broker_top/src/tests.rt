@@ -199,5 +199,8 @@ fn ample(rt: HostRuntime) -> Result<(), Fail> {
         return Err(Fail::new("the script was not read"));
     };
     assert_eq!(rt; lines.len(), 2);
+    let text = run(alloc, lines)?;
+    let want = "a 2 ok 7\na 3 got 7 1\nqueue q 1 18\nentry 7 held a\n";
+    assert_eq!(rt; text.as_str(), want);
     Ok(())
 }
