@@ -1,6 +1,5 @@
 -- a step keeps a state sound, in the form in which the code makes it
-use Rattle.std.proofs.Common.{◌≡◌, ℕ, ◌+◌, ◌*◌, ◌^◌, ◌<◌, ◌≤◌, Bool, true, false, cond, List, [], ◌∷◌, Option, Some, None, sym, subst, ap, ◌∙◌, arith, sum_by, find}
-use Rattle.std.specs.List.{AllByRecursion}
+use Rattle.std.proofs.Common.{◌≡◌, ℕ, ◌+◌, ◌^◌, ◌<◌, ◌≤◌, Bool, true, false, cond, List, [], ◌∷◌, Option, Some, None, sym, subst, ap, ◌∙◌, arith, sum_by, find}
 use Rattle.std.specs.Option.{option_map_or}
 use Rattle.std.proofs.lemmas.List.Sums.{sum_by-cons}
 use Rattle.acts_core.specs.declared.deeds.Act.{Act}
@@ -10,8 +9,8 @@ use Rattle.acts_core.specs.declared.queues.Bell as ring
 use Rattle.acts_core.specs.declared.queues.Reservation.{Reservation}
 use Rattle.acts_core.specs.declared.rows.Row.{Row}
 use Rattle.acts_core.specs.Keyed.{alter}
-use Rattle.acts_core.specs.State.{is_row, is_holder, is_bell, list_at, place_at, size_at, row_at, entries}
-use Rattle.acts_core.specs.Table.{Can, acted, earlier, most_bytes, most_entries}
+use Rattle.acts_core.specs.State.{is_row, is_holder, is_bell, list_at, place_at, size_at, row_at}
+use Rattle.acts_core.specs.Table.{Can, acted, earlier, most_bytes}
 use Rattle.acts_core.specs.Sound.{Sound, IsSized, FitsQueue}
 use Rattle.acts_core.proofs.KeyedLemmas.{all-find}
 use Rattle.acts_core.proofs.SoundSteps.{sound_step}

@@ -1,5 +1,5 @@
 -- what applying a deed answers, and what it leaves
-use Rattle.std.specs.Prelude.{◌≡◌, ℕ, Result, Ok, Err}
+use Rattle.std.specs.Prelude.{◌≡◌, Result, Ok, Err}
 use Rattle.acts_core.specs.declared.deeds.Deed.{Deed}
 use Rattle.acts_core.specs.declared.deeds.Unapplied.{Unapplied}
 use Rattle.acts_core.specs.declared.deeds.Unapplied.TheVariants.{Illegal, NoMemory}

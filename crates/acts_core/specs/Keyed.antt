@@ -1,5 +1,5 @@
 -- lists in which an element is found by a test, as a record by its key
-use Rattle.std.specs.Prelude.{◌≡◌, Bool, true, false, Option, Some, None, List, [], ◌∷◌, ◌++◌, if◌then◌else◌, find}
+use Rattle.std.specs.Prelude.{◌≡◌, Bool, Option, Some, None, List, [], ◌∷◌, ◌++◌, if◌then◌else◌, find}
 use Rattle.std.specs.Option.{option_to_list}
 
 -- The first element that passes the test is changed, or taken out. Where none passes one may be added at the end.

@@ -1,5 +1,5 @@
 -- what holds of every state that an opening leads to
-use Rattle.std.specs.Prelude.{◌≡◌, ℕ, ◌*◌, ◌^◌, ◌<◌, ◌≤◌, Bool, ◌==◌, ◌&&◌, List, [], ◌∷◌, length}
+use Rattle.std.specs.Prelude.{◌≡◌, ℕ, ◌*◌, ◌^◌, ◌<◌, ◌≤◌, Bool, [], length}
 use Rattle.std.specs.List.{AllByRecursion}
 use Rattle.acts_core.specs.declared.rows.Row.{Row}
 use Rattle.acts_core.specs.declared.rows.RowState.TheVariants.{Available}

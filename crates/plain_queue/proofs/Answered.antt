@@ -1,7 +1,6 @@
 -- each call, from the answer of its search
-use Rattle.std.proofs.Common.{◌≡◌, ℕ, ◌-◌, ◌<◌, ◌≤◌, Bool, true, false, ◌&&◌, ◌==◌, cond, List, length, get_or, set, refl, sym, ap, subst, ◌∙◌, arith, Option, Some, find}
+use Rattle.std.proofs.Common.{◌≡◌, ℕ, ◌-◌, ◌<◌, ◌≤◌, Bool, true, ◌&&◌, ◌==◌, cond, List, length, get_or, set, refl, sym, ap, ◌∙◌, arith, Some, find}
 use Rattle.std.specs.List.{position}
-use Rattle.acts_core.specs.declared.queues.Queue.{Queue}
 use Rattle.acts_core.specs.declared.rows.Row.{Row}
 use Rattle.acts_core.specs.declared.rows.RowState.{RowState}
 use Rattle.acts_core.specs.declared.rows.RowState.TheVariants.{Available, Locked, Deleted}

@@ -13,9 +13,9 @@ use Rattle.acts_core.specs.declared.rows.Row.{Row}
 use Rattle.acts_core.specs.declared.rows.RowState.{RowState}
 use Rattle.acts_core.specs.declared.rows.RowState.TheVariants.{Available, Locked, Unlocked, Dequeued, Deleted}
 use Rattle.acts_core.specs.Keyed.{alter}
-use Rattle.acts_core.specs.State.{is_row, is_holder, nothing, reserved_by, size_at, entries, row_entries, row_bytes, counts}
-use Rattle.acts_core.specs.Table.{Can, CanGive, CanEnqueue, acted, in_state, left_in, more, less, most_bytes, most_entries}
-use Rattle.acts_core.specs.History.{Does, Legal, after, deeds_of, deed}
+use Rattle.acts_core.specs.State.{is_row, is_holder, nothing, size_at, entries, row_entries, row_bytes, counts}
+use Rattle.acts_core.specs.Table.{Can, CanGive, acted, in_state, left_in, less, most_bytes, most_entries}
+use Rattle.acts_core.specs.History.{Does, deeds_of}
 use Rattle.plain_queue.specs.Calls.{put_acts, take_acts, release_acts, ack_acts, plain_slip, is_available, is_locked_by}
 use Rattle.acts_core.specs.Sound.{Sound}
 use Rattle.acts_core.proofs.SoundSteps.{sound_after}

@@ -1,5 +1,5 @@
 -- the first available row comes before each other available row
-use Rattle.std.proofs.Common.{◌≡◌, ◌≢◌, inr, ℕ, ◌<◌, Bool, true, false, cond, Option, Some, None, List, [], ◌∷◌, filter, find, refl, sym, ap, subst, ◌∙◌, ⊎_elim, arith, eq-eqb, ne_eqb}
+use Rattle.std.proofs.Common.{◌≡◌, ◌≢◌, inr, ℕ, ◌<◌, Bool, true, false, cond, Some, None, List, [], ◌∷◌, filter, find, refl, sym, ap, subst, ◌∙◌, ⊎_elim, arith, eq-eqb, ne_eqb}
 use Rattle.std.proofs.lemmas.Bool.{cases_Bool}
 use Rattle.std.specs.List.{position_or_len, AllByRecursion}
 use Rattle.acts_core.specs.declared.queues.Queue.{Queue}
@@ -8,7 +8,7 @@ use Rattle.acts_core.specs.declared.rows.RowState.TheVariants.{Available}
 use Rattle.acts_core.specs.Keyed.{Apart}
 use Rattle.acts_core.specs.Order.{ByList, Precedes}
 use Rattle.acts_core.specs.Sound.{Sound, FitsQueue, same_number}
-use Rattle.acts_core.specs.State.{is_row, is_of_list, row_at, rows_of, list_at, place_at}
+use Rattle.acts_core.specs.State.{is_row, is_of_list, row_at, rows_of, place_at}
 use Rattle.acts_core.proofs.KeyedLemmas.{find-here, find-past, find_passes, position-here, position-past}
 use Rattle.acts_core.proofs.SoundSteps.{list_found, row_fits}
 use Rattle.plain_queue.specs.Calls.{is_available, first_available}

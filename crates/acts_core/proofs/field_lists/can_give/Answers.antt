@@ -1,4 +1,4 @@
-use Rattle.std.proofs.Common.{◌≡◌, ◌∙◌, ap, sym, subst, IsTrue, ◌↔◌, unwrap_or, arith, Some}
+use Rattle.std.proofs.Common.{◌∙◌, ap, sym, subst, IsTrue, ◌↔◌, unwrap_or, arith}
 use Rattle.std.specs.List.{find}
 use Rattle.acts_core.specs.declared.queues.Reservation.{Reservation}
 use Rattle.acts_core.specs.State.{is_holder, nothing}

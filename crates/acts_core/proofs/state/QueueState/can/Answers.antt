@@ -1,4 +1,4 @@
-use Rattle.std.proofs.Common.{◌≡◌, sym, ◌∙◌, Bool, true, Option, Some, None, refl, is_some}
+use Rattle.std.proofs.Common.{◌≡◌, sym, ◌∙◌, true, Option, Some, None, refl, is_some}
 use Rattle.std.proofs.lemmas.Bool.{ltb-true, lt-ltb}
 use Rattle.acts_core.proofs.state.QueueState.can.Goals as goal
 
