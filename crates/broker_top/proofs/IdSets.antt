@@ -1,5 +1,5 @@
 -- the set of ids beside the lines
-use Rattle.std.proofs.Common.{◌≡◌, ℕ, ◌+◌, ◌<◌, ◌≤◌, Bool, true, false, cond, nat_eq, ◌||◌, List, [], ◌∷◌, ◌++◌, length, refl, sym, ap, ◌∙◌, arith, eq-eqb, ne_eqb}
+use Rattle.std.proofs.Common.{◌≡◌, ℕ, ◌+◌, Bool, true, false, cond, nat_eq, ◌||◌, List, [], ◌∷◌, ◌++◌, length, refl, sym, ap, ◌∙◌, arith, eq-eqb, ne_eqb}
 use Rattle.std.proofs.lemmas.Bool.Decides.{eqb_tells}
 use mathlib.Core.Logic.{⊎_elim}
 use Rattle.std.specs.List.{list_any}
@@ -10,7 +10,6 @@ use Rattle.std.proofs.lemmas.List.{append-nil, length-append}
 use Rattle.std.proofs.lemmas.List.Folds.{list_any-append}
 use Rattle.broker_top.specs.declared.lines.Line.{Line}
 use Rattle.broker_top.specs.declared.lines.Line.TheVariants.{Put, Take, Ack}
-use Rattle.acts_core.specs.declared.byte_lists.Bytes.{Bytes}
 use Rattle.broker_top.specs.Script.{put_ids}
 use Rattle.broker_top.specs.Ids.{FitsAfter, Tracks}
 use Rattle.broker_top.proofs.Scripts.{put_ids-push}

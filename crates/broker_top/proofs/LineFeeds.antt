@@ -1,5 +1,5 @@
 -- where a text parts into lines
-use Rattle.std.proofs.Common.{◌≡◌, ℕ, zero, suc, ◌+◌, ◌<◌, ◌≤◌, ◌==◌, Bool, true, false, cond, List, [], ◌∷◌, length, take, drop, get_or, refl, sym, ap, ◌∙◌, arith, Some, None, Option, find, add-one}
+use Rattle.std.proofs.Common.{◌≡◌, ℕ, zero, suc, ◌==◌, Bool, true, false, cond, List, [], ◌∷◌, take, drop, refl, ap, ◌∙◌, arith, Some, None, Option, find}
 use Rattle.std.specs.List.{position}
 use Rattle.acts_core.proofs.Positions.{IsFirstAt, first_at, find_none}
 use Rattle.broker_top.specs.Script.{lines_of, onto_first, input_lines}

@@ -4,14 +4,12 @@ use Rattle.std.proofs.lemmas.List.{append_assoc, append-nil}
 use Rattle.std.specs.List.{flat_map, slice_get}
 use Rattle.std.specs.Option.{option_map, option_map_or}
 use Rattle.acts_core.specs.declared.rows.RowState.{RowState}
-use Rattle.acts_core.specs.declared.deeds.Act.{Act}
 use Rattle.acts_core.specs.declared.deeds.Act.TheVariants.{Acq, Deq, Del, Reserve, GiveBack, Enq}
-use Rattle.acts_core.specs.declared.deeds.Deed.{Deed}
 use Rattle.acts_core.specs.declared.queues.Queue.{Queue}
 use Rattle.acts_core.specs.declared.rows.Row.{Row}
 use Rattle.acts_core.specs.State.{entries}
-use Rattle.acts_core.specs.Table.{acted, Can, most_entries}
-use Rattle.acts_core.specs.History.{after, Legal, Does, deeds_of}
+use Rattle.acts_core.specs.Table.{acted}
+use Rattle.acts_core.specs.History.{after, Legal, deeds_of}
 use Rattle.acts_core.proofs.Depths.{depth_kept, depth_reserving, depth_giving}
 use Rattle.acts_core.proofs.Histories.{after-append, legal-append}
 use Rattle.plain_queue.specs.Calls.{put_acts, take_acts, ack_acts, plain_slip, first_available, held_row}

@@ -1,14 +1,14 @@
 -- a script that grows by a line
-use Rattle.std.proofs.Common.{◌≡◌, ◌≢◌, ℕ, zero, suc, ◌+◌, ◌-◌, ◌<◌, ◌≤◌, Bool, true, false, cond, nat_eq, List, [], ◌∷◌, ◌++◌, length, take, drop, get_or, refl, sym, ap, subst, ◌∙◌, arith, inl, inr, eq-eqb, ◌||◌}
+use Rattle.std.proofs.Common.{◌≡◌, ◌≢◌, ℕ, zero, suc, ◌+◌, ◌<◌, ◌≤◌, Bool, true, false, nat_eq, List, [], ◌∷◌, ◌++◌, length, take, drop, get_or, refl, sym, ap, subst, ◌∙◌, arith, eq-eqb, ◌||◌}
 use Rattle.std.proofs.lemmas.List.{append-nil}
 use Rattle.std.specs.List.{AllZip, AllPairs, list_any}
 use Rattle.std.proofs.lemmas.List.{length-append, get_or_append_left, take-append-drop}
 use Rattle.std.proofs.lemmas.List.Quantifiers.{all_pairs_push}
-use Rattle.std.proofs.lemmas.Bool.{eqb-true, eqb-false}
+use Rattle.std.proofs.lemmas.Bool.{eqb-true}
 use Rattle.broker_top.specs.declared.lines.Line.{Line}
 use Rattle.broker_top.specs.declared.lines.Line.TheVariants.{Put, Take, Ack}
 use Rattle.broker_top.specs.Texts.{definitions_text, IsLine, SaysOneLine}
-use Rattle.broker_top.specs.Script.{IsScript, IsFirstRefused, put_ids, most_puts, lines_of, input_lines}
+use Rattle.broker_top.specs.Script.{IsScript, put_ids, most_puts, lines_of, input_lines}
 use Rattle.broker_top.specs.Ids.{FitsAfter}
 use Rattle.broker_top.specs.Fits.{IsSmall, AreSmall}
 use Rattle.broker_top.specs.Message.{message_bytes}

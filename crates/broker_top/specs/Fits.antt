@@ -1,5 +1,5 @@
 -- which lines a queue can do
-use Rattle.std.specs.Prelude.{ℕ, ◌<◌, ◌≤◌, List, [], ◌∷◌, length, ⊤}
+use Rattle.std.specs.Prelude.{◌<◌, ◌≤◌, List, length, ⊤}
 use Rattle.std.specs.List.{AllByRecursion}
 use Rattle.acts_core.specs.declared.queues.Queue.{Queue}
 use Rattle.acts_core.specs.State.{entries}

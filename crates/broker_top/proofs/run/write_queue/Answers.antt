@@ -1,4 +1,4 @@
-use Rattle.std.proofs.Common.{◌++◌, sym, ◌∙◌, arith, add-one, string_bytes, take}
+use Rattle.std.proofs.Common.{sym, ◌∙◌, arith, add-one, string_bytes, take}
 use Rattle.std.proofs.lemmas.List.{append_assoc}
 use Rattle.std.specs.List.{flat_map}
 use Rattle.broker_top.specs.Run.{depth_text, entry_text, row_text}

@@ -1,7 +1,6 @@
-use Rattle.std.proofs.Common.{◌∙◌, sym, ap, add-one, ◌∷◌, length}
+use Rattle.std.proofs.Common.{◌∙◌, sym, add-one}
 use Rattle.std.proofs.lemmas.List.{take_rest}
 use Rattle.std.proofs.Math.Seq.{drop-length}
-use Rattle.broker_top.specs.Script.{lines_of}
 use Rattle.broker_top.proofs.LineFeeds.{line_at, line_all}
 use Rattle.broker_top.proofs.script.first_line.Goals as goal
 

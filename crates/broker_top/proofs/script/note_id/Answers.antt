@@ -1,6 +1,5 @@
 use Rattle.std.proofs.Common.{◌+◌, not, cond, arith, ap, sym, ◌∙◌}
-use Rattle.std.specs.BTreeSet.{contains, btree_set_len}
-use Rattle.std.specs.Ordering.{nat_cmp}
+use Rattle.std.specs.BTreeSet.{btree_set_len}
 use Rattle.broker_top.proofs.IdSets.{other_line, noted}
 use Rattle.broker_top.proofs.script.note_id.Goals as goal
 

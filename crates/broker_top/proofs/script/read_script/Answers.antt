@@ -1,6 +1,6 @@
-use Rattle.std.proofs.Common.{◌≡◌, ◌∷◌, ◌++◌, [], ◌≢◌, ◌+◌, ◌-◌, length, sym, ap, ◌∙◌, subst, arith, add-one, inr, drop, take}
+use Rattle.std.proofs.Common.{◌≡◌, ◌≢◌, ◌+◌, ◌-◌, length, sym, ◌∙◌, arith, add-one, inr, take}
 use Rattle.std.proofs.lemmas.Bool.{eqb-false, eqb-true}
-use Rattle.broker_top.specs.Script.{input_lines, lines_of, IsScript}
+use Rattle.broker_top.specs.Script.{input_lines, lines_of}
 use Rattle.broker_top.proofs.Scripts.{drop_cons, take_all, further_line, nothing_further}
 use Rattle.broker_top.proofs.script.read_script.Goals as goal
 
