@@ -51,3 +51,14 @@ pub encoded : (m : Content) (old b1 b2 b3 b4 b5 b6 x1 x2 x3 x4 x5 x6 : List ℕ)
     → b6 ≡ b5 ++ x6 → x6 ≡ m.body
     → b6 ≡ old ++ content m
 encoded m old b1 b2 b3 b4 b5 b6 x1 x2 x3 x4 x5 x6 e1 s1 e2 s2 e3 s3 e4 s4 e5 s5 e6 s6 = rw (e6, e5, e4, e3, e2, e1, s1, s2, s3, s4, s5, s6) (simp append_assoc)
+
+-- without its body a message is still one
+pub message_cleared : (m : Content) → IsMessage m → IsMessage (record m { body = [] })
+message_cleared m is = record {
+  id = is.id;
+  priority = is.priority;
+  few = is.few;
+  headers = is.headers;
+  distinct = is.distinct;
+  short = omega (arith, is.short, size_is m, size_is (record m { body = [] }));
+}

@@ -15,6 +15,9 @@ pub record Content : Type 0 where
   pub headers : List Header
   pub body : List ℕ
 
+abbrev pub parts : ℕ → Bool → ℕ → List Header → List ℕ → Content
+parts id persistent priority headers body = record { id = id; persistent = persistent; priority = priority; headers = headers; body = body }
+
 -- ---- the bytes
 
 abbrev pub flag_byte : Bool → ℕ

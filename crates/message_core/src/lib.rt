@@ -3,11 +3,17 @@
 
 pub mod faults;
 pub mod headers;
+pub mod laws;
 pub mod messages;
 mod names;
+mod reading;
 mod sizes;
 mod writing;
 
 pub use faults::{DecodeFault, MessageFault};
 pub use headers::{Header, HeaderValue};
-pub use messages::{LONGEST_NAME, MOST_HEADERS, Message, TOP_PRIORITY};
+pub use messages::{MOST_HEADERS, Message, TOP_PRIORITY};
+pub use sizes::LONGEST_NAME;
+
+#[cfg(test)]
+mod tests;

@@ -1,13 +1,15 @@
 //! Messages.
-ghost use Rattle.std.specs.Prelude.{◌≡◌, ◌+◌, ◌≤◌, ◌++◌, [], length, MatchResult};
+ghost use Rattle.std.specs.Prelude.{◌≡◌, ◌+◌, ◌≤◌, ◌++◌, [], length, IfErr, IfOk, Ok};
 ghost use Rattle.std.specs.List.{All};
 ghost use Rattle.std.specs.Option.{option_copied};
-ghost use Rattle.message_core.specs.Spelling.{content, value_of, IsReadable, IsMessage};
+ghost use Rattle.message_core.specs.Spelling.{Content, content, parts, value_of, IsReadable, IsMessage};
 ghost use Rattle.message_core.specs.Making.{IsRefused};
+ghost use Rattle.message_core.specs.Reading.{message_of, Decodes};
 
-use crate::faults::MessageFault;
+use crate::faults::{DecodeFault, MessageFault};
 use crate::headers::{Header, HeaderValue};
 use crate::names::has_double;
+use crate::reading::{Fields, all_fields_of};
 use crate::sizes::{has_long_name, headers_size};
 use crate::writing::put_headers;
 use acts_core::{Buffer, Bytes, MOST_BYTES};
@@ -16,10 +18,11 @@ use std::marker::Model;
 
 /// The greatest priority.
 pub const TOP_PRIORITY: u8 = 9;
-/// The greatest length of a header's name, in bytes.
-pub const LONGEST_NAME: u64 = 255;
 /// The greatest number of headers.
 pub const MOST_HEADERS: u64 = 65_535;
+
+/// How many bytes of an encoding are neither a header's nor the body's.
+const OTHER_BYTES: u64 = 16;
 
 /// A message. Contracts see its five fields, and that they are a message's: a priority of at most 9, headers
 /// with distinct names and within their limits, and an encoding of at most 1,048,576 bytes.
@@ -33,13 +36,13 @@ pub struct Message {
 }
 
 impl Model for Message {
-    ghost use Rattle.message_core.specs.Spelling.{Content, IsMessage};
+    ghost use Rattle.message_core.specs.Spelling.{Content, IsMessage, parts};
 
     ghost Value = { Content };
 
-    ghost view = { λ m. record { id = m.id; persistent = m.persistent; priority = m.priority; headers = m.headers.items; body = m.body } };
+    ghost view = { λ m. parts m.id m.persistent m.priority m.headers.items m.body };
 
-    ghost invariant = { λ m. IsMessage (record { id = m.id; persistent = m.persistent; priority = m.priority; headers = m.headers.items; body = m.body }) };
+    ghost invariant = { λ m. IsMessage (parts m.id m.persistent m.priority m.headers.items m.body) };
 }
 
 impl Message {
@@ -56,7 +59,8 @@ impl Message {
         body: Bytes,
     ) -> Result<Message, MessageFault>
         requires { All IsReadable headers.items }
-        ensures made { MatchResult result (λ m. (m ≡ record { id = id; persistent = persistent; priority = priority; headers = headers.items; body = body }) × IsMessage m) (λ e. IsRefused e (record { id = id; persistent = persistent; priority = priority; headers = headers.items; body = body })) }
+        ensures made { IfOk result (λ m. (m ≡ parts id persistent priority headers.items body) × IsMessage m) }
+        ensures refused { IfErr result (λ e. IsRefused e (parts id persistent priority headers.items body)) }
     {
         if priority > TOP_PRIORITY {
             return Err(MessageFault::BadPriority);
@@ -67,9 +71,38 @@ impl Message {
             Err(_) => return Err(MessageFault::NoMemory),
         }
         let size = headers_size(&headers).saturating_add(body.as_slice().len() as u64);
-        if has_long_name(&headers) || headers.len() as u64 > MOST_HEADERS || size > MOST_BYTES - 16 {
+        let many = headers.len() as u64 > MOST_HEADERS;
+        if many || has_long_name(&headers) || size > MOST_BYTES - OTHER_BYTES {
             return Err(MessageFault::TooLong);
         }
+        Ok(Message {
+            id,
+            persistent,
+            priority,
+            headers,
+            body,
+        })
+    }
+
+    /// The message whose encoding the bytes are, all of them. NotMessage exactly where they are no message's; `at`
+    /// is the first byte of the first field that is cut short, has no allowed value, is a second equal name or
+    /// isn't UTF-8. A name begins behind its length, and a text at its length. A byte after the body, and bytes
+    /// above 1,048,576, are at fault where too many begin. NoMemory may come in place of any.
+    pub fn decode(alloc: Global, bytes: &[u8]) -> Result<Message, DecodeFault>
+        // What is read is a message, and the bytes are its encoding.
+        ensures found { IfOk result (λ m. IsMessage m × (bytes.now ≡ content m)) }
+        // The encoding of a message is read as that message, unless memory runs out.
+        ensures only { (m : Content) → IsMessage m → bytes.now ≡ content m → Decodes result (Ok m) }
+        // Where the first fault is.
+        ensures exact { Decodes result (message_of bytes.now) }
+    {
+        let Fields {
+            id,
+            persistent,
+            priority,
+            headers,
+            body,
+        } = all_fields_of(alloc, bytes)?;
         Ok(Message {
             id,
             persistent,
@@ -84,7 +117,7 @@ impl Message {
         ensures size { result ≡ length (content self.now) }
         ensures message { IsMessage self.now }
     {
-        16 + headers_size(&self.headers) + self.body.as_slice().len() as u64
+        OTHER_BYTES + headers_size(&self.headers) + self.body.as_slice().len() as u64
     }
 
     /// Puts the encoding at the end of the buffer, which has to have room for it. Takes no memory.

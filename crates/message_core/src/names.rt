@@ -12,10 +12,7 @@ use std::alloc::Global;
 use std::collections::BTreeSet;
 
 /// Adds the name, and says whether it is new.
-pub(crate) fn add_name<'a>(
-    taken: &mut BTreeSet<&'a [u8]>,
-    name: &'a [u8],
-) -> Result<bool, NoMemory>
+pub(crate) fn add_name<'a>(taken: &mut BTreeSet<&'a [u8]>, name: &'a [u8]) -> Result<bool, NoMemory>
     ensures added { (ns : List (List ℕ)) → Holds taken.old ns → IfOk result (λ new. new ≡ not (is_among name.now ns)) }
     ensures holds { (ns : List (List ℕ)) → Holds taken.old ns → OnOk result (Holds taken.new (ns ++ name.now ∷ [])) }
 {

@@ -5,6 +5,10 @@ ghost use Rattle.message_core.specs.Spelling.{value_bytes, header_bytes, IsNumbe
 
 use crate::headers::{Header, HeaderValue};
 
+/// The greatest length of a header's name, in bytes.
+pub const LONGEST_NAME: usize = 255;
+
+/// The bytes of a value, with its tag.
 fn value_size(value: &HeaderValue) -> u64
     ensures size { result ≡ min (length (value_bytes value.now)) (2 ^ 64 - 1) }
     ensures number { IsNumber value.now }
@@ -19,6 +23,7 @@ fn value_size(value: &HeaderValue) -> u64
     }
 }
 
+/// The bytes of one header.
 fn header_size(header: &Header) -> u64
     ensures size { result ≡ min (length (header_bytes header.now)) (2 ^ 64 - 1) }
     ensures number { IsNumber header.now.value }
@@ -39,9 +44,11 @@ pub(crate) fn headers_size(headers: &[Header]) -> u64
     size
 }
 
-/// Whether a name has more than 255 bytes.
+/// Whether a name has more bytes than a name may have.
 pub(crate) fn has_long_name(headers: &[Header]) -> bool
-    ensures { IsTrue result ↔ (Any (λ h. 255 < length h.name) headers.now) }
+    ensures { IsTrue result ↔ (Any (λ h. LONGEST_NAME < length h.name) headers.now) }
 {
-    headers.iter().any(|header| header.name.as_slice().len() > 255)
+    headers
+        .iter()
+        .any(|header| header.name.as_slice().len() > LONGEST_NAME)
 }

@@ -6,6 +6,7 @@ ghost use Rattle.message_core.specs.Spelling.{text_bytes, value_bytes, header_by
 use crate::headers::{Header, HeaderValue};
 use acts_core::Buffer;
 
+/// Puts a text at the end, behind its length.
 fn put_text(text: &[u8], into: &mut Buffer)
     requires short { length text.now < 2 ^ 32 }
     requires room { length into.old.bytes + length (text_bytes text.now) ≤ into.old.room }
@@ -16,6 +17,7 @@ fn put_text(text: &[u8], into: &mut Buffer)
     into.append(text);
 }
 
+/// Puts a value at the end, behind its tag.
 fn put_value(value: &HeaderValue, into: &mut Buffer)
     requires short { length (value_bytes value.now) < 2 ^ 32 }
     requires room { length into.old.bytes + length (value_bytes value.now) ≤ into.old.room }
@@ -35,6 +37,7 @@ fn put_value(value: &HeaderValue, into: &mut Buffer)
     }
 }
 
+/// Puts a header at the end.
 fn put_header(header: &Header, into: &mut Buffer)
     requires name { length header.now.name ≤ 255 }
     requires short { length (header_bytes header.now) < 2 ^ 32 }

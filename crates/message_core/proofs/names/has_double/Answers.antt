@@ -1,10 +1,10 @@
-use Rattle.std.proofs.Common.{◌≡◌, List, ℕ, Bool, true, false, not, ap, subst, sym, ◌∙◌, take}
-use Rattle.std.specs.List.{list_any, IsDistinct}
+use Rattle.std.proofs.Common.{◌≡◌, List, ℕ, true, false, not, ap, subst, sym, ◌∙◌, take}
+use Rattle.std.specs.List.{list_any}
 use Rattle.std.specs.Str.{bytes_eq}
 use Rattle.std.proofs.lemmas.Bool.{not-false, not-true}
 use Rattle.std.proofs.lemmas.Map.Keys.{IsDistinct-push}
 use denote.Ref.{Bor}
-use Rattle.message_core.specs.Names.{is_among, has, Holds}
+use Rattle.message_core.specs.Names.{is_among}
 use Rattle.message_core.specs.Spelling.{names}
 use Rattle.message_core.proofs.NameSets.{bytes_equiv, distinct_none, double_from, names_more}
 use Rattle.message_core.proofs.names.has_double.Goals as goal

@@ -1,4 +1,4 @@
-use Rattle.std.proofs.Common.{ap, subst, arith}
+use Rattle.std.proofs.Common.{subst, arith}
 use Rattle.std.proofs.lemmas.List.Elements.{All-more}
 use Rattle.message_core.specs.declared.headers.Header.{Header}
 use Rattle.message_core.specs.Spelling.{IsNumber}

@@ -10,5 +10,9 @@ put_header-requires-clause-short c =
 
 pub put_header-requires-clause-room : goal.put_header-requires-clause-room
 put_header-requires-clause-room c =
-    omega (arith, size_one c.args.headers.now c.loop-header.header-index c.header-item.result c.loop-header-test.true c.header-item.is,
-      ap length c.loop-header.invariant.bytes, length-append c.args.into.now.bytes (flat_map header_bytes (take c.loop-header.header-index c.args.headers.now)))
+    omega (
+      arith,
+      size_one c.args.headers.now c.loop-header.header-index c.header-item.result c.loop-header-test.true c.header-item.is,
+      ap length c.loop-header.invariant.bytes,
+      length-append c.args.into.now.bytes (flat_map header_bytes (take c.loop-header.header-index c.args.headers.now)),
+    )
