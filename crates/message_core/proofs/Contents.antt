@@ -1,5 +1,5 @@
 -- the bytes of a message, and what makes one
-use Rattle.std.proofs.Common.{◌≡◌, ℕ, ◌+◌, ◌-◌, ◌^◌, ◌<◌, ◌≤◌, Bool, true, false, List, [], ◌∷◌, ◌++◌, length, get_or, min, refl, sym, ap, subst, ◌∙◌, append_assoc, length-append, arith, inl, inr}
+use Rattle.std.proofs.Common.{◌≡◌, ℕ, ◌+◌, ◌-◌, ◌^◌, ◌<◌, ◌≤◌, Bool, true, false, List, [], ◌∷◌, ◌++◌, length, get_or, min, refl, append_assoc, length-append, arith, inl, inr}
 use Rattle.std.specs.Prelude.{MatchBool}
 use Rattle.std.specs.Int.{w16, w32, w64, to_be_bytes, from_bool}
 use Rattle.std.specs.List.{flat_map, All, Any, IsDistinct}
@@ -7,7 +7,7 @@ use Rattle.std.specs.Str.{bytes_eq}
 use Rattle.std.proofs.lemmas.Bool.{cases_lt}
 use Rattle.std.proofs.lemmas.List.{get_or_default}
 use Rattle.message_core.specs.declared.headers.Header.{Header}
-use Rattle.message_core.specs.Spelling.{Content, content, flag_byte, header_bytes, names, IsReadable, IsNumber, IsHeader, IsMessage}
+use Rattle.message_core.specs.Spelling.{Content, content, flag_byte, header_bytes, names, IsReadable, IsNumber, IsMessage}
 
 pub size_is : (m : Content) → length (content m) ≡ 16 + (length (flat_map header_bytes m.headers) + length m.body)
 size_is m =

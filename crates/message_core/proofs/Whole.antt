@@ -1,9 +1,9 @@
 -- The two laws: what is read is spelled so, and what is spelled so is read.
-use Rattle.std.proofs.Common.{◌≡◌, ℕ, zero, suc, ◌+◌, ◌-◌, ◌^◌, ◌<◌, ◌≤◌, Bool, true, false, cond, ltb, eqb, List, [], ◌∷◌, ◌++◌, length, map, Result, Ok, Err, refl, sym, ap, subst, ◌∙◌, append_assoc, length-append, arith, inl, inr}
+use Rattle.std.proofs.Common.{◌≡◌, ℕ, zero, suc, ◌+◌, ◌-◌, ◌^◌, ◌<◌, ◌≤◌, Bool, true, false, cond, ltb, eqb, List, [], ◌∷◌, ◌++◌, length, Result, Ok, Err, refl, sym, ap, subst, ◌∙◌, append_assoc, length-append, arith}
 use Rattle.std.specs.Prelude.{ℤ, ◌||◌, FitsSigned}
 use Rattle.std.specs.Int.{w16, w32, w64, to_be_bytes, cast_signed, cast_unsigned}
-use Rattle.std.specs.List.{flat_map, list_any, All, AllByRecursion, IsDistinct}
-use Rattle.std.specs.Str.{IsUtf8, bytes_eq}
+use Rattle.std.specs.List.{flat_map, AllByRecursion, IsDistinct}
+use Rattle.std.specs.Str.{bytes_eq}
 use Rattle.std.proofs.lemmas.Bool.{eqb-true, ltb-false, le-ltb}
 use Rattle.std.proofs.lemmas.Int.{of_z-to_z, to_z-of_z}
 use Rattle.std.proofs.Math.Facts.{sfits_to_z, Fits-of_lt, Fits-of_z, Fits-lt-pow}
@@ -14,9 +14,9 @@ use Rattle.std.proofs.lemmas.Map.Keys.{IsDistinct-push, IsDistinct-head, IsDisti
 use Rattle.message_core.specs.declared.headers.Header.{Header}
 use Rattle.message_core.specs.declared.headers.HeaderValue.{HeaderValue}
 use Rattle.message_core.specs.declared.headers.HeaderValue.TheVariants as value
-use Rattle.message_core.specs.Spelling.{Content, content, cut, flag_byte, text_bytes, value_bytes, header_bytes, headers_bytes, names, IsText, IsReadable, IsNumber, IsHeader, IsMessage}
+use Rattle.message_core.specs.Spelling.{Content, content, cut, flag_byte, value_bytes, header_bytes, headers_bytes, names, IsText, IsNumber, IsHeader, IsMessage}
 use Rattle.message_core.specs.Names.{is_among}
-use Rattle.message_core.specs.Reading.{◌>>=◌, number_at, byte_at, bytes_at, flag_at, priority_at, name_at, text_at, value_at, header_at, headers_at, content_at, ended, message_of}
+use Rattle.message_core.specs.Reading.{◌>>=◌, number_at, bytes_at, flag_at, priority_at, name_at, text_at, value_at, header_at, headers_at, content_at, ended, message_of}
 use Rattle.message_core.proofs.NameSets.{bytes_equiv, distinct_none}
 use Rattle.message_core.proofs.Fields.{IsBytes, IsBytes-rest, bind_ok, guard_ok, ok_is, Takes, Takes-then, wide16, wide32, wide64, number_takes, number_again, flag_takes, flag_again, priority_takes, priority_again, bytes_takes, bytes_again, name_takes, name_again, text_takes, text_again}
 

@@ -1,13 +1,11 @@
 -- why parts make no message
-use Rattle.std.specs.Prelude.{◌≡◌, ℕ, ◌<◌, ◌≤◌, ◌⊎◌, length}
+use Rattle.std.specs.Prelude.{◌<◌, ◌≤◌, ◌⊎◌, length}
 use Rattle.std.specs.List.{IsDistinct}
 use Rattle.std.specs.Str.{bytes_eq}
 use Rattle.message_core.specs.declared.faults.MessageFault.{MessageFault}
 use Rattle.message_core.specs.declared.faults.MessageFault.TheVariants.{BadPriority, DoubleHeader, TooLong, NoMemory}
 use Rattle.message_core.specs.Spelling.{Content, content, names}
 use Rattle.message_core.specs.Names.{HasDouble}
-use Rattle.message_core.specs.declared.headers.Header.{Header}
-use Rattle.std.specs.Prelude.{List}
 use Rattle.std.specs.List.{Any}
 
 -- a name, the number of headers or the whole encoding passes its limit

@@ -1,5 +1,5 @@
 -- what messages are, and the bytes of each (docs/FORMATS.md)
-use Rattle.std.specs.Prelude.{ℕ, ◌+◌, ◌<◌, ◌≤◌, ◌^◌, Bool, true, false, List, [], ◌∷◌, ◌++◌, length, map, FitsSigned, if◌then◌else◌, Option, Some, None}
+use Rattle.std.specs.Prelude.{ℕ, ◌<◌, ◌≤◌, ◌^◌, Bool, true, false, List, [], ◌∷◌, ◌++◌, length, map, FitsSigned, if◌then◌else◌, Option, Some, None}
 use Rattle.std.specs.List.{flat_map, All, IsDistinct}
 use Rattle.std.specs.Int.{w16, w32, w64, to_be_bytes, cast_unsigned}
 use Rattle.std.specs.Str.{IsUtf8, bytes_eq}
@@ -41,9 +41,13 @@ header_bytes h = (length h.name ∷ h.name) ++ value_bytes h.value
 abbrev pub headers_bytes : List Header → List ℕ
 headers_bytes hs = to_be_bytes w16 (length hs) ++ flat_map header_bytes hs
 
+-- the bytes before the length of the body
+abbrev pub front : Content → List ℕ
+front m = to_be_bytes w64 m.id ++ (flag_byte m.persistent ∷ m.priority ∷ []) ++ headers_bytes m.headers
+
 -- all bytes but those of the body; the length of the body stays
 abbrev pub cut : Content → List ℕ
-cut m = to_be_bytes w64 m.id ++ (flag_byte m.persistent ∷ m.priority ∷ []) ++ headers_bytes m.headers ++ to_be_bytes w32 (length m.body)
+cut m = front m ++ to_be_bytes w32 (length m.body)
 
 abbrev pub content : Content → List ℕ
 content m = cut m ++ m.body

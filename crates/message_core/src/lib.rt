@@ -4,6 +4,7 @@
 pub mod faults;
 pub mod headers;
 pub mod laws;
+pub mod limits;
 pub mod messages;
 mod names;
 mod reading;
@@ -12,8 +13,8 @@ mod writing;
 
 pub use faults::{DecodeFault, MessageFault};
 pub use headers::{Header, HeaderValue};
-pub use messages::{MOST_HEADERS, Message, TOP_PRIORITY};
-pub use sizes::LONGEST_NAME;
+pub use limits::{LONGEST_NAME, MOST_HEADERS, TOP_PRIORITY};
+pub use messages::Message;
 
 #[cfg(test)]
 mod tests;

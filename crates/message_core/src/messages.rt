@@ -8,6 +8,7 @@ ghost use Rattle.message_core.specs.Reading.{message_of, Decodes};
 
 use crate::faults::{DecodeFault, MessageFault};
 use crate::headers::{Header, HeaderValue};
+use crate::limits::{MOST_HEADERS, TOP_PRIORITY};
 use crate::names::has_double;
 use crate::reading::{Fields, all_fields_of};
 use crate::sizes::{has_long_name, headers_size};
@@ -15,11 +16,6 @@ use crate::writing::put_headers;
 use acts_core::{Buffer, Bytes, MOST_BYTES};
 use std::alloc::Global;
 use std::marker::Model;
-
-/// The greatest priority.
-pub const TOP_PRIORITY: u8 = 9;
-/// The greatest number of headers.
-pub const MOST_HEADERS: u64 = 65_535;
 
 /// How many bytes of an encoding are neither a header's nor the body's.
 const OTHER_BYTES: u64 = 16;

@@ -9,6 +9,7 @@ ghost use Rattle.message_core.specs.Fields.{view};
 
 use crate::faults::DecodeFault;
 use crate::headers::{Header, HeaderValue};
+use crate::limits::TOP_PRIORITY;
 use crate::names::add_name;
 use acts_core::{Bytes, MOST_BYTES, NoMemory};
 use std::alloc::{AllocFailed, Global};
@@ -131,7 +132,7 @@ fn priority_of(bytes: &[u8]) -> Result<(u8, &[u8]), ReadFault>
     ensures { Gives (λ x. (x.0, x.1.now)) result (priority_at bytes.now) }
 {
     let (priority, rest) = byte_of(bytes)?;
-    if priority <= 9 {
+    if priority <= TOP_PRIORITY {
         Ok((priority, rest))
     } else {
         Err(ReadFault::Left(bytes.len()))

@@ -4,9 +4,7 @@ ghost use Rattle.std.specs.List.{flat_map, All, Any};
 ghost use Rattle.message_core.specs.Spelling.{value_bytes, header_bytes, IsNumber};
 
 use crate::headers::{Header, HeaderValue};
-
-/// The greatest length of a header's name, in bytes.
-pub const LONGEST_NAME: usize = 255;
+use crate::limits::LONGEST_NAME;
 
 /// The bytes of a value, with its tag.
 fn value_size(value: &HeaderValue) -> u64

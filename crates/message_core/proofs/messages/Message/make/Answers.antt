@@ -1,8 +1,8 @@
-use Rattle.std.proofs.Common.{◌≡◌, ◌<◌, ◌≤◌, ◌+◌, ◌-◌, ◌^◌, min, Bool, true, false, List, length, refl, ap, subst, sym, ◌∙◌, arith}
+use Rattle.std.proofs.Common.{◌≡◌, ◌<◌, ◌≤◌, ◌+◌, ◌-◌, ◌^◌, min, true, false, List, length, refl, ap, subst, sym, ◌∙◌, arith}
 use Rattle.std.specs.List.{All, Any, IsDistinct, flat_map}
 use Rattle.std.specs.Str.{bytes_eq}
 use Rattle.message_core.specs.declared.headers.Header.{Header}
-use Rattle.message_core.specs.Spelling.{Content, IsMessage, IsNumber, parts, header_bytes, names}
+use Rattle.message_core.specs.Spelling.{IsMessage, IsNumber, parts, header_bytes, names}
 use Rattle.message_core.proofs.Contents.{at_false, message_made}
 use Rattle.message_core.proofs.messages.Message.make.Goals as goal
 use Rattle.message_core.proofs.messages.Message.make.Goals.{Else-size}
