@@ -1,0 +1,11 @@
+pub mod Frames
+pub mod Drawing
+pub mod Reserving
+pub mod Softening
+pub mod Packing
+pub mod Changing
+pub mod Helping
+pub mod Chaining
+pub mod Linking
+pub mod Lawful
+pub mod Making

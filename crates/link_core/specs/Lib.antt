@@ -1,0 +1,7 @@
+pub mod Layout
+pub mod Table
+pub mod Stands
+pub mod Steps
+pub mod Fresh
+pub mod Laws
+pub mod Further
