@@ -1,5 +1,5 @@
 -- each step that fits is its deed, and so is each list of steps
-use Rattle.std.proofs.Common.{◌≡◌, ℕ, Bool, true, false, cond, List, [], ◌∷◌, sym, subst, ⊎_elim, eqb-true}
+use Rattle.std.proofs.Common.{◌≡◌, ℕ, Result, Ok, Err, Bool, true, false, cond, List, [], ◌∷◌, sym, subst, ⊎_elim, eqb-true}
 use Rattle.std.proofs.lemmas.Bool.{cases_Bool, ltb-true}
 use Rattle.acts_core.specs.declared.queues.Queue.{Queue}
 use Rattle.acts_core.specs.declared.steps.Step.{Step}
@@ -12,6 +12,10 @@ use Rattle.link_core.specs.Laws.{Law}
 use Rattle.link_core.specs.Layout.{pack_state}
 use Rattle.link_core.specs.Stands.{Stands}
 use Rattle.link_core.specs.Steps.{Fits, shown, hits, changed_by, acts_in, moved, deed, AllFit, all_moved, all_deeds}
+use Rattle.link_core.specs.Advanced.{Advances}
+use Rattle.link_core.specs.declared.stepping.Unfit.{Unfit}
+use Rattle.link_core.specs.declared.store.Store.{Store}
+use Rattle.link_core.specs.Kept.{IsLong, IsKept, table_in}
 use Rattle.link_core.specs.Table.{Table, top}
 use Rattle.link_core.proofs.Changing.{state_step}
 use Rattle.link_core.proofs.Drawing.{draw_kept, draft_kept}
@@ -54,3 +58,12 @@ all_steps t q (x ∷ xs) s fit =
 pub law : Law
 law lists rows consumers callers steps few_lists few_rows few_consumers few_callers fit =
     all_steps (fresh lists rows consumers callers) (empty lists consumers) steps (fresh_stands lists rows consumers callers few_lists few_rows few_consumers few_callers) fit
+
+-- the vectors keep a table after each step, whatever it answers
+pub kept_advanced : (s new : Store) (r : Result ℕ Unfit) (h : ℕ) (step : Step) → IsKept s → IsLong new → Advances r (table_in s) (table_in new) h step → IsKept new
+kept_advanced s new (Ok word) h step kept long a = record {
+  long = long;
+  queue = after kept.queue (deed (table_in s) h step);
+  stands = subst (λ (t : Table). Stands t (after kept.queue (deed (table_in s) h step))) (sym a.2) (one_step (table_in s) kept.queue h step kept.stands a.0.1).1;
+}
+kept_advanced s new (Err e) h step kept long a = record { long = long; queue = kept.queue; stands = subst (λ (t : Table). Stands t kept.queue) (sym a.1) kept.stands }

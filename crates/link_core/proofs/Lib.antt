@@ -7,5 +7,7 @@ pub mod Changing
 pub mod Helping
 pub mod Chaining
 pub mod Linking
-pub mod Lawful
+pub mod Stored
 pub mod Making
+pub mod Lawful
+pub mod Bounds

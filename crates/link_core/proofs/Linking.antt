@@ -115,10 +115,10 @@ enqueue t r = acts.Enq r (slip_in t r) (replicate (size_in t r) 0) [] 0
 can_enqueue : (t : Table) (q : Queue) (h r : ℕ) (node : Node) → Stands t q → FitsLink t h r node → Can q h (enqueue t r)
 can_enqueue t q h r node s fits = record {
   new = not_linked t q h r s fits.drawn.drawer;
-  size = fits.size;
-  list = omega (arith, fits.list, (node_facts t q node (list_of_node t node) s fits.node refl).low, s.shaped.lists);
-  mask = subst (λ (n : ℕ). mask_in t r < 2 ^ n) s.shaped.consumers fits.mask;
-  reserved = subst (λ (v : Reservation). CanGive v (size_in t r)) (sym (s.reserved h)) fits.reserved;
+  size = fits.behind.size;
+  list = omega (arith, fits.behind.list, (node_facts t q node (list_of_node t node) s fits.node refl).low, s.shaped.lists);
+  mask = subst (λ (n : ℕ). mask_in t r < 2 ^ n) s.shaped.consumers fits.behind.mask;
+  reserved = subst (λ (v : Reservation). CanGive v (size_in t r)) (sym (s.reserved h)) fits.behind.reserved;
 }
 
 -- The row r of caller h is linked behind a node of its list whose link, the word i, is empty.
@@ -159,7 +159,7 @@ module _ (t : Table) (q : Queue) (h r : ℕ) (node : Node) (s : Stands t q) (fit
   drafted_new : IsDrafted (slice_set t.words i (suc r)) r (place_at (acted q h (enqueue t r)) r) (slip_in t r)
   drafted_new = record {
     mask = set_else t.words i (suc r) (685 + 7 * r) (facts.drafted r drafts.Mask);
-    place = set_else t.words i (suc r) (686 + 7 * r) (facts.drafted r drafts.Place) ∙ fits.place ∙ facts.place empty ∙ sym (own_enqueued_last q h r (slip_in t r) (replicate (size_in t r) 0) [] 0 can);
+    place = set_else t.words i (suc r) (686 + 7 * r) (facts.drafted r drafts.Place) ∙ fits.behind.place ∙ facts.place empty ∙ sym (own_enqueued_last q h r (slip_in t r) (replicate (size_in t r) 0) [] 0 can);
     ident = set_else t.words i (suc r) (687 + 7 * r) (facts.drafted r drafts.Ident);
     size = set_else t.words i (suc r) (688 + 7 * r) (facts.drafted r drafts.Size);
     list = set_else t.words i (suc r) (689 + 7 * r) (facts.drafted r drafts.List);
@@ -256,4 +256,4 @@ module _ (t : Table) (q : Queue) (h r : ℕ) (node : Node) (s : Stands t q) (fit
 pub link_step : (t : Table) (q : Queue) (h r : ℕ) (node : Node) → Stands t q → FitsLink t h r node → slice_index t.words (link_of node) ≡ 0
     → Can q h (enqueue t r) × Stands (changed_by t h (Link r node)) (acted q h (enqueue t r))
 link_step t q h r node s fits empty =
-    (can_enqueue t q h r node s fits, linked t q h r node s fits (link_of node) (node_facts t q node (list_in t r) s fits.node (sym fits.list)) empty (changed_by t h (Link r node)) refl)
+    (can_enqueue t q h r node s fits, linked t q h r node s fits (link_of node) (node_facts t q node (list_in t r) s fits.node (sym fits.behind.list)) empty (changed_by t h (Link r node)) refl)

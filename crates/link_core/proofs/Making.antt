@@ -1,13 +1,18 @@
 -- a fresh table stands for an empty queue
-use Rattle.std.proofs.Common.{◌≡◌, inl, ℕ, zero, suc, ◌+◌, ◌-◌, ◌*◌, ◌<◌, ◌≤◌, List, [], ◌∷◌, ◌++◌, length, get_or, replicate, refl, ap, ◌∙◌, length-append, arith}
+use Rattle.std.proofs.Common.{◌≡◌, inl, ℕ, zero, suc, ◌+◌, ◌-◌, ◌*◌, ◌<◌, ◌≤◌, List, [], ◌∷◌, ◌++◌, length, get_or, set, replicate, ⊎_elim, refl, ap, ◌∙◌, length-append, arith, Option, None, subst, sym}
 use Rattle.std.specs.Prelude.{slice_index}
-use Rattle.std.proofs.lemmas.List.{length-replicate, get_or-replicate, get_or_append_left, get_or-append_right}
+use Rattle.std.proofs.lemmas.Bool.{cases_lt}
+use Rattle.std.proofs.lemmas.List.{get_or_past, length-replicate, get_or-replicate, get_or_append_left, get_or-append_right}
 use Rattle.acts_core.specs.Sound.{Sound}
 use Rattle.acts_core.specs.State.{empty}
 use Rattle.acts_core.proofs.SoundSteps.{sound_opening}
-use Rattle.link_core.specs.Fresh.{blank_rows, fresh_words, fresh}
+use Rattle.link_core.specs.Fresh.{blank_rows, fresh_front, fresh_words, fresh}
 use Rattle.link_core.specs.Layout.{no_bell}
 use Rattle.link_core.specs.Stands.{Stands}
+use Rattle.link_core.specs.declared.store.Store.{Store}
+use Rattle.link_core.specs.Kept.{IsLong, IsKept, table_in}
+use Rattle.link_core.specs.Table.{Table}
+use Rattle.link_core.proofs.Stored.{listed}
 
 -- Words of rows
 
@@ -31,6 +36,11 @@ blank_state (suc n) zero lt = refl
 blank_state (suc n) (suc r) lt =
     blank_behind n (1 + 7 * suc r) (omega arith) ∙ ap (λ (i : ℕ). get_or (blank_rows n) i 0) (let e : 1 + 7 * suc r - 7 ≡ 1 + 7 * r = omega arith in e) ∙ blank_state n r (omega (arith, lt))
 
+-- one row more
+pub blank_more : (n : ℕ) → blank_rows n ++ 0 ∷ 1 ∷ 0 ∷ 0 ∷ 0 ∷ 0 ∷ 0 ∷ [] ≡ blank_rows (n + 1)
+blank_more zero = refl
+blank_more (suc n) = ap (λ (xs : List ℕ). 0 ∷ 1 ∷ 0 ∷ 0 ∷ 0 ∷ 0 ∷ 0 ∷ xs) (blank_more n) ∙ ap blank_rows (let e : suc (n + 1) ≡ suc n + 1 = omega arith in e)
+
 -- All words
 
 module _ (callers rows : ℕ) where
@@ -38,7 +48,7 @@ module _ (callers rows : ℕ) where
   zeros = 0 ∷ callers ∷ replicate 41 0
 
   abbrev front : List ℕ
-  front = 0 ∷ callers ∷ replicate 41 0 ++ replicate 640 no_bell
+  front = fresh_front callers
 
   front_long : length front ≡ 683
   front_long = length-append zeros (replicate 640 no_bell) ∙ (let a = length-replicate {A = ℕ} 640 no_bell in let b : length (replicate {A = ℕ} 41 0) ≡ 41 = length-replicate {A = ℕ} 41 0 in let e : length zeros ≡ suc (suc (length (replicate {A = ℕ} 41 0))) = refl in omega (arith, a, b, e))
@@ -92,3 +102,29 @@ fresh_stands lists rows consumers callers few_lists few_rows few_consumers few_c
   };
   reserved = λ h. refl;
 }
+
+-- vectors that keep a fresh table
+pub fresh_kept : (s : Store) (lists rows consumers callers : ℕ) → table_in s ≡ fresh lists rows consumers callers → IsLong s → lists ≤ 10 → rows ≤ 524288 → consumers ≤ 64 → callers ≤ 4294967296 → IsKept s
+fresh_kept s lists rows consumers callers e long few_lists few_rows few_consumers few_callers = record {
+  long = long;
+  queue = empty lists consumers;
+  stands = subst (λ (t : Table). Stands t (empty lists consumers)) (sym e) (fresh_stands lists rows consumers callers few_lists few_rows few_consumers few_callers);
+}
+
+-- copies of what stands past the end of a list
+get_or-copies : {X : Type 0} (n i : ℕ) (d : X) → get_or (replicate n d) i d ≡ d
+get_or-copies n i d = ⊎_elim (λ (lt : i < n). get_or-replicate n i d d lt) (λ (le : n ≤ i). get_or_past (replicate n d) i d (let e = length-replicate n d in omega (arith, e, le))) (cases_lt i n)
+
+-- vectors of a fresh table
+pub fresh_table : (lists rows consumers callers : ℕ) (words : List ℕ) (drawers : List (Option ℕ)) (entries bytes : List ℕ)
+    → words ≡ fresh_words callers rows → drawers ≡ replicate rows None → entries ≡ replicate callers 0 → bytes ≡ replicate callers 0
+    → listed rows lists consumers callers words drawers entries bytes ≡ fresh lists rows consumers callers
+fresh_table lists rows consumers callers words drawers entries bytes we de ee be =
+    let drawer : (k : ℕ) → get_or drawers k None ≡ None = λ k. ap (λ (ds : List (Option ℕ)). get_or ds k None) de ∙ get_or-copies rows k None in
+    let entry : (k : ℕ) → get_or entries k 0 ≡ 0 = λ k. ap (λ (xs : List ℕ). get_or xs k 0) ee ∙ get_or-copies callers k 0 in
+    let byte : (k : ℕ) → get_or bytes k 0 ≡ 0 = λ k. ap (λ (xs : List ℕ). get_or xs k 0) be ∙ get_or-copies callers k 0 in
+    λ i. record { rows = rows; lists = lists; consumers = consumers; callers = callers; words = we i; drawer = λ k. drawer k i; reserved = λ k. record { holder = k; entries = entry k i; bytes = byte k i } }
+
+-- the words before those of rows, from a row of zeros
+pub front_made : (callers : ℕ) (words silent : List ℕ) → words ≡ replicate 43 0 → silent ≡ replicate 640 no_bell → set words 1 callers ++ silent ≡ fresh_front callers
+front_made callers words silent we se = ap (λ (xs : List ℕ). set xs 1 callers ++ silent) we ∙ ap (λ (xs : List ℕ). set (replicate 43 0) 1 callers ++ xs) se

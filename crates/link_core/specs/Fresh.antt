@@ -9,9 +9,12 @@ abbrev pub blank_rows : ℕ → List ℕ
 blank_rows zero = []
 blank_rows (suc n) = 0 ∷ 1 ∷ 0 ∷ 0 ∷ 0 ∷ 0 ∷ 0 ∷ blank_rows n
 
--- all words: no row is drawn, all lists are empty, and no bell is rung
+-- the words that are not those of rows: none is drawn, all lists are empty, and no bell is rung
+abbrev pub fresh_front : ℕ → List ℕ
+fresh_front callers = 0 ∷ callers ∷ replicate 41 0 ++ replicate 640 no_bell
+
 abbrev pub fresh_words : ℕ → ℕ → List ℕ
-fresh_words callers rows = 0 ∷ callers ∷ replicate 41 0 ++ replicate 640 no_bell ++ blank_rows rows
+fresh_words callers rows = fresh_front callers ++ blank_rows rows
 
 abbrev pub fresh : ℕ → ℕ → ℕ → ℕ → Table
 fresh lists rows consumers callers = record { rows = rows; lists = lists; consumers = consumers; callers = callers; words = fresh_words callers rows; drawer = λ r. None; reserved = nothing }

@@ -5,3 +5,5 @@ pub mod Steps
 pub mod Fresh
 pub mod Laws
 pub mod Further
+pub mod Kept
+pub mod Advanced

@@ -70,15 +70,19 @@ pub record IsDrawnBy (t : Table) (h r : ℕ) : Type 0 where
   pub row : r < t.rows
   pub drawer : t.drawer r ≡ Some h
 
--- The row is the caller's to link behind this node: its draft words fit the node and the queue, and an entry of its size is reserved.
-pub record FitsLink (t : Table) (h r : ℕ) (after : Node) : Type 0 where
-  pub drawn : IsDrawnBy t h r
-  pub node : IsNode t after
+-- the draft words of the row fit the node and the queue, and an entry of its size is reserved
+pub record FitsBehind (t : Table) (h r : ℕ) (after : Node) : Type 0 where
   pub list : list_in t r ≡ list_of_node t after
   pub place : place_in t r ≡ place_behind t after
   pub mask : mask_in t r < 2 ^ t.consumers
   pub size : size_in t r ≤ most_bytes
   pub reserved : CanGive (t.reserved h) (size_in t r)
+
+-- the row is the caller's to link behind this node
+pub record FitsLink (t : Table) (h r : ℕ) (after : Node) : Type 0 where
+  pub drawn : IsDrawnBy t h r
+  pub node : IsNode t after
+  pub behind : FitsBehind t h r after
 
 -- a tail may move from one node of its list to a later row
 pub record FitsHelp (t : Table) (l : ℕ) (from : Node) (r : ℕ) : Type 0 where
@@ -171,16 +175,16 @@ abbrev pub reserved_after : Change → Reservation → ℕ → Reservation
 reserved_after Deq v size = with_more v size
 reserved_after change v size = v
 
--- the words that a step leaves where it changes its word
-abbrev pub written : Table → ℕ → Step → List ℕ
-written t h Draw = slice_set t.words 0 (top t + 1)
-written t h (Draft r w value) = slice_set t.words (draft_of r w) value
-written t h (Link r node) = slice_set t.words (link_of node) (suc r)
-written t h (HelpTail l from to) = slice_set t.words (tail_of l) (pack_node to)
-written t h (Load name) = t.words
-written t h (State r change from) = slice_set t.words (state_of r) (pack_state (goes_to h change))
-written t h (Reserve size) = slice_set t.words 2 (slice_index t.words 2 + (entry_worth + size))
-written t h (GiveBack size) = slice_set t.words 2 (slice_index t.words 2 - (entry_worth + size))
+-- the word that a step leaves where it changes it
+abbrev pub word_after : Table → ℕ → Step → ℕ
+word_after t h Draw = top t + 1
+word_after t h (Draft r w value) = value
+word_after t h (Link r node) = suc r
+word_after t h (HelpTail l from to) = pack_node to
+word_after t h (Load name) = shown t (Load name)
+word_after t h (State r change from) = pack_state (goes_to h change)
+word_after t h (Reserve size) = slice_index t.words 2 + (entry_worth + size)
+word_after t h (GiveBack size) = slice_index t.words 2 - (entry_worth + size)
 
 -- the drawers afterwards: a draw makes the caller one, and a link ends that
 abbrev pub drawer_after : Table → ℕ → Step → ℕ → Option ℕ
@@ -198,7 +202,7 @@ reserves_after t h step = t.reserved h
 
 -- the table that a step leaves where it changes its word
 abbrev pub changed_by : Table → ℕ → Step → Table
-changed_by t h s = record t { words = written t h s; drawer = drawer_after t h s; reserved = but t.reserved h (reserves_after t h s) }
+changed_by t h s = record t { words = slice_set t.words (place_of_step s) (word_after t h s); drawer = drawer_after t h s; reserved = but t.reserved h (reserves_after t h s) }
 
 -- the table afterwards
 abbrev pub moved : Table → ℕ → Step → Table

@@ -2,4 +2,14 @@
 //! that fit they stand for a legal history.
 #![tactic(auto)]
 
+mod blank;
+mod fitting;
 pub mod laws;
+mod places;
+mod stepping;
+mod store;
+
+pub use stepping::{Unfit, Words};
+
+#[cfg(test)]
+mod tests;
