@@ -9,4 +9,4 @@ pub mod Owns
 pub mod Orders
 pub mod Histories
 pub mod Prefixes
-pub mod Steps
+pub mod Performing

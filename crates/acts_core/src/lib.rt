@@ -11,6 +11,7 @@ pub mod limits;
 pub mod queues;
 pub mod rows;
 pub mod state;
+pub mod steps;
 
 pub use byte_lists::{Buffer, Bytes, NoMemory, Origin};
 pub use cargoes::{Cargo, Locking, Next, Placed, Releasing, Stealing};
@@ -19,6 +20,7 @@ pub use limits::{MOST_BYTES, MOST_ENTRIES};
 pub use queues::{Bell, Depth, Limits, Policy, Queue, Reservation};
 pub use rows::{Row, RowState, Slip};
 pub use state::QueueState;
+pub use steps::{Change, DraftWord, Node, Step, WordName};
 
 #[cfg(test)]
 mod tests;

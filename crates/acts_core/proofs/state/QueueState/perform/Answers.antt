@@ -1,7 +1,7 @@
 -- each arm's fields are the state that its act leaves, which is sound
 use Rattle.std.proofs.Common.{arith, ◌∙◌}
 use Rattle.std.proofs.lemmas.Grind.{common_steps}
-use Rattle.acts_core.proofs.Steps.{kept, can_at, acted_at, more_fits, size_fits, rung}
+use Rattle.acts_core.proofs.Performing.{kept, can_at, acted_at, more_fits, size_fits, rung}
 use Rattle.acts_core.proofs.state.QueueState.perform.Goals as goal
 
 pub invariant_of-self : goal.invariant_of-self

@@ -1,0 +1,13 @@
+pub mod Frames
+pub mod Drawing
+pub mod Reserving
+pub mod Softening
+pub mod Packing
+pub mod Changing
+pub mod Helping
+pub mod Chaining
+pub mod Linking
+pub mod Stored
+pub mod Making
+pub mod Lawful
+pub mod Bounds

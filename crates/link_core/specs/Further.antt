@@ -1,0 +1,74 @@
+-- steps on words that no list of steps has yet: unlinks, bells, marks and counts
+use Rattle.std.specs.Prelude.{◌≡◌, ℕ, ◌+◌, ◌*◌, ◌<◌, ◌==◌, nat_lt, if◌then◌else◌, suc, List, [], ◌∷◌, slice_index, slice_set}
+use Rattle.acts_core.specs.declared.deeds.Act.TheVariants as acts
+use Rattle.acts_core.specs.declared.deeds.Deed.{Deed}
+use Rattle.acts_core.specs.declared.rows.RowState.TheVariants.{Deleted}
+use Rattle.acts_core.specs.declared.steps.Node.{Node}
+use Rattle.acts_core.specs.History.{deeds_of}
+use Rattle.link_core.specs.Layout.{link_of, mark_of, count_of, bell_of, state_of, pack_state, no_bell}
+use Rattle.link_core.specs.Steps.{list_in, place_in}
+use Rattle.link_core.specs.Table.{Table, IsLinked, IsNode}
+
+-- the state word of the row packs Deleted
+abbrev pub IsGone : Table → ℕ → Type 0
+IsGone t r = slice_index t.words (state_of r) ≡ pack_state Deleted
+
+-- Unlinks: the link of a node moves from a deleted row to a later one of its list; each row between is deleted
+
+pub record FitsUnlink (t : Table) (at : Node) (from to : ℕ) : Type 0 where
+  pub node : IsNode t at
+  pub out : IsLinked t from
+  pub next : IsLinked t to
+  pub gone : IsGone t from
+  pub list : list_in t to ≡ list_in t from
+  pub later : place_in t from < place_in t to
+  pub between : (r : ℕ) → IsLinked t r → list_in t r ≡ list_in t from → place_in t from < place_in t r → place_in t r < place_in t to → IsGone t r
+
+-- an exchange: a link that names another row is only read
+abbrev pub after_unlink : Table → Node → ℕ → ℕ → Table
+after_unlink t at from to = if slice_index t.words (link_of at) == suc from then record t { words = slice_set t.words (link_of at) (suc to) } else t
+
+-- Bells: the earlier of two places stands, which is the smaller word
+
+abbrev pub FitsRing : Table → ℕ → ℕ → Type 0
+FitsRing t c r = (c < t.consumers) × IsLinked t r
+
+-- the word of a bell that rings for a row
+abbrev pub bell_word : Table → ℕ → ℕ
+bell_word t r = place_in t r * 1048576 + r
+
+abbrev pub after_ring : Table → ℕ → ℕ → Table
+after_ring t c r = let i = bell_of c (list_in t r) in record t { words = if nat_lt (bell_word t r) (slice_index t.words i) then slice_set t.words i (bell_word t r) else t.words }
+
+abbrev pub ring_deed : ℕ → ℕ → ℕ → List Deed
+ring_deed h c r = deeds_of h (acts.Bell r c ∷ [])
+
+-- The word shown is that of the bell that was rung, or of none.
+abbrev pub FitsTakeBell : Table → ℕ → ℕ → Type 0
+FitsTakeBell t c l = (c < t.consumers) × (l < t.lists)
+
+abbrev pub after_take_bell : Table → ℕ → ℕ → Table
+after_take_bell t c l = record t { words = slice_set t.words (bell_of c l) no_bell }
+
+abbrev pub take_bell_deed : ℕ → ℕ → ℕ → List Deed
+take_bell_deed h c l = deeds_of h (acts.Take c l ∷ [])
+
+-- Marks: the greater of two places stands
+
+-- the place is that of a row of the list
+abbrev pub FitsMark : Table → ℕ → ℕ → Type 0
+FitsMark t l place = (l < t.lists) × ((r : ℕ) × IsLinked t r × (list_in t r ≡ l) × (place_in t r ≡ place))
+
+abbrev pub after_mark : Table → ℕ → ℕ → Table
+after_mark t l place = record t { words = if nat_lt (slice_index t.words (mark_of l)) place then slice_set t.words (mark_of l) place else t.words }
+
+-- Counts: one more, and back to none
+
+abbrev pub FitsCount : Table → ℕ → Type 0
+FitsCount t l = l < t.lists
+
+abbrev pub after_count : Table → ℕ → Table
+after_count t l = record t { words = slice_set t.words (count_of l) (slice_index t.words (count_of l) + 1) }
+
+abbrev pub after_reset : Table → ℕ → Table
+after_reset t l = record t { words = slice_set t.words (count_of l) 0 }

@@ -1,0 +1,61 @@
+-- the vectors that keep a table of words
+use Rattle.std.specs.Prelude.{◌≡◌, ℕ, ◌<◌, Option, Some, None, List, length, slice_index, slice_index_or, slice_set}
+use Rattle.acts_core.specs.declared.queues.Queue.{Queue}
+use Rattle.acts_core.specs.declared.steps.Step.{Step}
+use Rattle.acts_core.specs.declared.steps.Step.TheVariants.{Draw, Link}
+use Rattle.link_core.specs.declared.store.Store.{Store}
+use Rattle.link_core.specs.Stands.{Stands}
+use Rattle.link_core.specs.Table.{Table}
+
+-- What contracts see of the vectors: a list has the drawer of each row, and two what each caller has reserved.
+pub record Vectors : Type 0 where
+  pub rows : ℕ
+  pub lists : ℕ
+  pub consumers : ℕ
+  pub callers : ℕ
+  pub words : List ℕ
+  pub drawers : List (Option ℕ)
+  pub entries : List ℕ
+  pub bytes : List ℕ
+
+-- the table that the vectors keep
+abbrev pub table_of : Vectors → Table
+table_of v = record {
+  rows = v.rows;
+  lists = v.lists;
+  consumers = v.consumers;
+  callers = v.callers;
+  words = v.words;
+  drawer = λ r. slice_index_or v.drawers r None;
+  reserved = λ h. record { holder = h; entries = slice_index v.entries h; bytes = slice_index v.bytes h };
+}
+
+abbrev pub vectors_in : Store → Vectors
+vectors_in s = record { rows = s.rows; lists = s.lists; consumers = s.consumers; callers = s.callers; words = s.words.items; drawers = s.drawers.items; entries = s.entries.items; bytes = s.bytes.items }
+
+abbrev pub table_in : Store → Table
+table_in s = table_of (vectors_in s)
+
+-- the vectors have a place for each row and for each caller
+pub record IsLong (s : Store) : Type 0 where
+  pub drawers : length s.drawers.items ≡ s.rows
+  pub entries : length s.entries.items ≡ s.callers
+  pub bytes : length s.bytes.items ≡ s.callers
+
+-- the words stand for the state of some queue
+pub record IsKept (s : Store) : Type 0 where
+  pub long : IsLong s
+  pub queue : Queue
+  pub stands : Stands (table_in s) queue
+
+-- the place of the drawer that a step sets, if any, is among so many; the next row to be drawn is given
+abbrev pub SetsBelow : ℕ → ℕ → Step → Type 0
+SetsBelow n next Draw = next < n
+SetsBelow n next (Link r node) = r < n
+SetsBelow n next step = Unit {0}
+
+-- the drawers after a step that changes its word
+abbrev pub drawers_after : List (Option ℕ) → ℕ → ℕ → Step → List (Option ℕ)
+drawers_after drawers next h Draw = slice_set drawers next (Some h)
+drawers_after drawers next h (Link r node) = slice_set drawers r None
+drawers_after drawers next h step = drawers

@@ -1,0 +1,246 @@
+-- steps on words: when a step fits, what it shows, which act it is, and what it leaves
+use Rattle.std.specs.Prelude.{◌≡◌, ℕ, ◌+◌, ◌-◌, ◌/◌, ◌^◌, ◌<◌, ◌≤◌, Bool, true, false, ◌==◌, nat_lt, if◌then◌else◌, suc, Option, Some, None, List, [], ◌∷◌, ◌++◌, slice_index, slice_set, replicate}
+use Rattle.acts_core.specs.declared.deeds.Act.{Act}
+use Rattle.acts_core.specs.declared.deeds.Act.TheVariants as acts
+use Rattle.acts_core.specs.declared.deeds.Deed.{Deed}
+use Rattle.acts_core.specs.declared.queues.Reservation.{Reservation}
+use Rattle.acts_core.specs.declared.rows.RowState.{RowState}
+use Rattle.acts_core.specs.declared.rows.RowState.TheVariants.{Available, Locked, Unlocked, Dequeued, Deleted}
+use Rattle.acts_core.specs.declared.rows.Slip.{Slip}
+use Rattle.acts_core.specs.declared.steps.Change.{Change}
+use Rattle.acts_core.specs.declared.steps.Change.TheVariants.{Acq, Lock, Unlock, Steal, Rel, Deq, Del}
+use Rattle.acts_core.specs.declared.steps.DraftWord.TheVariants as drafts
+use Rattle.acts_core.specs.declared.steps.Node.{Node}
+use Rattle.acts_core.specs.declared.steps.Node.TheVariants as nodes
+use Rattle.acts_core.specs.declared.steps.Step.{Step}
+use Rattle.acts_core.specs.declared.steps.Step.TheVariants.{Draw, Draft, Link, HelpTail, Load, State, Reserve, GiveBack}
+use Rattle.acts_core.specs.declared.steps.WordName.{WordName}
+use Rattle.acts_core.specs.declared.steps.WordName.TheVariants as names
+use Rattle.acts_core.specs.History.{deeds_of}
+use Rattle.acts_core.specs.Laws.{with_more, with_less}
+use Rattle.acts_core.specs.Table.{CanGive, most_bytes, most_entries}
+use Rattle.link_core.specs.Layout.{link_of, tail_of, state_of, draft_of, place_of_word, pack_state, pack_node, entry_worth}
+use Rattle.link_core.specs.Table.{Table, top, but, IsLinked, IsNode, list_of_node}
+
+-- Words by name
+
+abbrev pub mask_in : Table → ℕ → ℕ
+mask_in t r = slice_index t.words (draft_of r drafts.Mask)
+
+abbrev pub place_in : Table → ℕ → ℕ
+place_in t r = slice_index t.words (draft_of r drafts.Place)
+
+abbrev pub size_in : Table → ℕ → ℕ
+size_in t r = slice_index t.words (draft_of r drafts.Size)
+
+abbrev pub list_in : Table → ℕ → ℕ
+list_in t r = slice_index t.words (draft_of r drafts.List)
+
+-- the slip that the draft words tell; a linked queue has no keys
+abbrev pub slip_in : Table → ℕ → Slip
+slip_in t r = record { id = slice_index t.words (draft_of r drafts.Ident); size = size_in t r; mask = mask_in t r; list = list_in t r; key = None }
+
+-- the place right behind a node
+abbrev pub place_behind : Table → Node → ℕ
+place_behind t (nodes.Head l) = 0
+place_behind t (nodes.Row r) = place_in t r + 1
+
+-- row r comes behind the node, in its list
+abbrev pub IsBehind : Table → Node → ℕ → Type 0
+IsBehind t node r = (list_in t r ≡ list_of_node t node) × (place_behind t node ≤ place_in t r)
+
+-- When a step fits
+
+-- the table has a word of this name
+abbrev pub HasWord : Table → WordName → Type 0
+HasWord t names.Top = Unit {0}
+HasWord t names.Callers = Unit {0}
+HasWord t names.Depth = Unit {0}
+HasWord t (names.Link (nodes.Head l)) = l < t.lists
+HasWord t (names.Link (nodes.Row r)) = r < t.rows
+HasWord t (names.Tail l) = l < t.lists
+HasWord t (names.Mark l) = l < t.lists
+HasWord t (names.Count l) = l < t.lists
+HasWord t (names.Bell c l) = (c < t.consumers) × (l < t.lists)
+HasWord t (names.State r) = r < t.rows
+HasWord t (names.Draft r w) = r < t.rows
+
+-- caller h drew the row, and has not linked it
+pub record IsDrawnBy (t : Table) (h r : ℕ) : Type 0 where
+  pub row : r < t.rows
+  pub drawer : t.drawer r ≡ Some h
+
+-- the draft words of the row fit the node and the queue, and an entry of its size is reserved
+pub record FitsBehind (t : Table) (h r : ℕ) (after : Node) : Type 0 where
+  pub list : list_in t r ≡ list_of_node t after
+  pub place : place_in t r ≡ place_behind t after
+  pub mask : mask_in t r < 2 ^ t.consumers
+  pub size : size_in t r ≤ most_bytes
+  pub reserved : CanGive (t.reserved h) (size_in t r)
+
+-- the row is the caller's to link behind this node
+pub record FitsLink (t : Table) (h r : ℕ) (after : Node) : Type 0 where
+  pub drawn : IsDrawnBy t h r
+  pub node : IsNode t after
+  pub behind : FitsBehind t h r after
+
+-- a tail may move from one node of its list to a later row
+pub record FitsHelp (t : Table) (l : ℕ) (from : Node) (r : ℕ) : Type 0 where
+  pub list : l < t.lists
+  pub node : IsNode t from
+  pub row : IsLinked t r
+  pub node_list : list_of_node t from ≡ l
+  pub behind : IsBehind t from r
+
+-- the node is a row and no head
+abbrev pub FitsHelpTo : Table → ℕ → Node → Node → Type 0
+FitsHelpTo t l from (nodes.Head m) = ⊥
+FitsHelpTo t l from (nodes.Row r) = FitsHelp t l from r
+
+-- the change goes on from this state, for caller h
+abbrev pub GoesFrom : ℕ → Change → RowState → Type 0
+GoesFrom h Acq s = s ≡ Available
+GoesFrom h Lock s = s ≡ Unlocked h
+GoesFrom h Unlock s = s ≡ Locked h
+GoesFrom h Steal s = (k : ℕ) × (s ≡ Unlocked k)
+GoesFrom h Rel s = s ≡ Locked h
+GoesFrom h Deq s = s ≡ Locked h
+GoesFrom h Del s = s ≡ Dequeued
+
+-- a caller that the state names is low enough for the state to be packed
+abbrev pub IsPackable : RowState → Type 0
+IsPackable (Locked h) = h < 2 ^ 61
+IsPackable (Unlocked h) = h < 2 ^ 61
+IsPackable s = Unit {0}
+
+pub record FitsState (t : Table) (h r : ℕ) (change : Change) (from : RowState) : Type 0 where
+  pub row : IsLinked t r
+  pub goes : GoesFrom h change from
+  pub packable : IsPackable from
+
+-- the step of caller h fits the words
+abbrev pub Fits : Table → ℕ → Step → Type 0
+Fits t h Draw = Unit {0}
+Fits t h (Draft r w value) = IsDrawnBy t h r
+Fits t h (Link r node) = FitsLink t h r node
+Fits t h (HelpTail l from to) = FitsHelpTo t l from to
+Fits t h (Load name) = HasWord t name
+Fits t h (State r change from) = FitsState t h r change from
+Fits t h (Reserve size) = (size ≤ most_bytes) × (slice_index t.words 2 / entry_worth < most_entries)
+Fits t h (GiveBack size) = CanGive (t.reserved h) size
+
+-- What a step shows
+
+-- the place of the word that a step reads or changes
+abbrev pub place_of_step : Step → ℕ
+place_of_step Draw = 0
+place_of_step (Draft r w value) = draft_of r w
+place_of_step (Link r node) = link_of node
+place_of_step (HelpTail l from to) = tail_of l
+place_of_step (Load name) = place_of_word name
+place_of_step (State r change from) = state_of r
+place_of_step (Reserve size) = 2
+place_of_step (GiveBack size) = 2
+
+-- the word before the step
+abbrev pub shown : Table → Step → ℕ
+shown t s = slice_index t.words (place_of_step s)
+
+-- Whether the step changes its word. An exchange that shows another word than the expected one is a load, and so is a draw
+-- where no row is left.
+abbrev pub hits : Table → Step → Bool
+hits t Draw = nat_lt (shown t Draw) t.rows
+hits t (Draft r w value) = true
+hits t (Link r node) = shown t (Link r node) == 0
+hits t (HelpTail l from to) = shown t (HelpTail l from to) == pack_node from
+hits t (Load name) = false
+hits t (State r change from) = shown t (State r change from) == pack_state from
+hits t (Reserve size) = true
+hits t (GiveBack size) = true
+
+-- What a step does
+
+-- the state that a change leads to
+abbrev pub goes_to : ℕ → Change → RowState
+goes_to h Acq = Locked h
+goes_to h Lock = Locked h
+goes_to h Unlock = Unlocked h
+goes_to h Steal = Locked h
+goes_to h Rel = Available
+goes_to h Deq = Dequeued
+goes_to h Del = Deleted
+
+-- what a caller has reserved after a change of a row of this size
+abbrev pub reserved_after : Change → Reservation → ℕ → Reservation
+reserved_after Deq v size = with_more v size
+reserved_after change v size = v
+
+-- the word that a step leaves where it changes it
+abbrev pub word_after : Table → ℕ → Step → ℕ
+word_after t h Draw = top t + 1
+word_after t h (Draft r w value) = value
+word_after t h (Link r node) = suc r
+word_after t h (HelpTail l from to) = pack_node to
+word_after t h (Load name) = shown t (Load name)
+word_after t h (State r change from) = pack_state (goes_to h change)
+word_after t h (Reserve size) = slice_index t.words 2 + (entry_worth + size)
+word_after t h (GiveBack size) = slice_index t.words 2 - (entry_worth + size)
+
+-- the drawers afterwards: a draw makes the caller one, and a link ends that
+abbrev pub drawer_after : Table → ℕ → Step → ℕ → Option ℕ
+drawer_after t h Draw = but t.drawer (top t) (Some h)
+drawer_after t h (Link r node) = but t.drawer r None
+drawer_after t h step = t.drawer
+
+-- what the caller has reserved afterwards
+abbrev pub reserves_after : Table → ℕ → Step → Reservation
+reserves_after t h (Link r node) = with_less (t.reserved h) (size_in t r)
+reserves_after t h (State r change from) = reserved_after change (t.reserved h) (size_in t r)
+reserves_after t h (Reserve size) = with_more (t.reserved h) size
+reserves_after t h (GiveBack size) = with_less (t.reserved h) size
+reserves_after t h step = t.reserved h
+
+-- the table that a step leaves where it changes its word
+abbrev pub changed_by : Table → ℕ → Step → Table
+changed_by t h s = record t { words = slice_set t.words (place_of_step s) (word_after t h s); drawer = drawer_after t h s; reserved = but t.reserved h (reserves_after t h s) }
+
+-- the table afterwards
+abbrev pub moved : Table → ℕ → Step → Table
+moved t h s = if hits t s then changed_by t h s else t
+
+-- the act of a change of row r; counts are not told
+abbrev pub act_of : Change → ℕ → Act
+act_of Acq r = acts.Acq r
+act_of Lock r = acts.Lock r
+act_of Unlock r = acts.Unlock r 0
+act_of Steal r = acts.Steal r
+act_of Rel r = acts.Rel r 0
+act_of Deq r = acts.Deq r
+act_of Del r = acts.Del r
+
+-- the acts of a step that changes its word: one or none; contents are not told, so that a new row has as many zeros as its size
+abbrev pub acts_in : Table → Step → List Act
+acts_in t (Link r node) = acts.Enq r (slip_in t r) (replicate (size_in t r) 0) [] 0 ∷ []
+acts_in t (State r change from) = act_of change r ∷ []
+acts_in t (Reserve size) = acts.Reserve size ∷ []
+acts_in t (GiveBack size) = acts.GiveBack size ∷ []
+acts_in t step = []
+
+-- the deeds of a step: one or none
+abbrev pub deed : Table → ℕ → Step → List Deed
+deed t h s = if hits t s then deeds_of h (acts_in t s) else []
+
+-- Lists of steps with their callers
+
+-- each step fits where it stands
+abbrev pub AllFit : Table → List (ℕ × Step) → Type 0
+AllFit t [] = Unit {0}
+AllFit t (s ∷ steps) = Fits t s.0 s.1 × AllFit (moved t s.0 s.1) steps
+
+abbrev pub all_moved : Table → List (ℕ × Step) → Table
+all_moved t [] = t
+all_moved t (s ∷ steps) = all_moved (moved t s.0 s.1) steps
+
+abbrev pub all_deeds : Table → List (ℕ × Step) → List Deed
+all_deeds t [] = []
+all_deeds t (s ∷ steps) = deed t s.0 s.1 ++ all_deeds (moved t s.0 s.1) steps

@@ -1,0 +1,62 @@
+//! The vectors of a table in which nothing has happened.
+ghost use Rattle.std.specs.Prelude.{◌≡◌, ◌≤◌, ℕ, IfOk, replicate};
+ghost use Rattle.link_core.specs.Fresh.{fresh, fresh_words};
+ghost use Rattle.link_core.specs.Kept.{IsLong, table_in};
+
+use crate::store::Store;
+use std::alloc::{AllocError, Global};
+
+/// The word of a bell that is not rung.
+const NO_BELL: u64 = 18_446_744_073_709_551_615;
+
+/// All words: no row is drawn, all lists are empty, and no bell is rung.
+fn fresh_words(alloc: Global, callers: u64, rows: u64) -> Result<Vec<u64>, AllocError>
+    ensures { IfOk result (λ words. words.items ≡ fresh_words callers rows) }
+{
+    let mut words = vec![in alloc; 0; 43]?;
+    words[1] = callers;
+    let silent = vec![in alloc; NO_BELL; 640]?;
+    words.extend_from_slice(&silent)?;
+    for row in 0..rows {
+        let _ = row;
+        words.extend_from_slice(&[0, 1, 0, 0, 0, 0, 0])?;
+    }
+    Ok(words)
+}
+
+/// No drawer for any row.
+fn no_drawers(alloc: Global, rows: u64) -> Result<Vec<Option<u64>>, AllocError>
+    ensures { IfOk result (λ drawers. drawers.items ≡ replicate rows None) }
+{
+    let mut drawers = Vec::new(alloc);
+    for row in 0..rows {
+        let _ = row;
+        drawers.push(None)?;
+    }
+    Ok(drawers)
+}
+
+impl Store {
+    /// A table in which nothing has happened.
+    pub(crate) fn fresh(
+        alloc: Global,
+        lists: u32,
+        rows: u64,
+        consumers: u32,
+        callers: u64,
+    ) -> Result<Store, AllocError>
+        ensures table { IfOk result (λ s. table_in s ≡ fresh lists rows consumers callers) }
+        ensures long { IfOk result (λ s. IsLong s) }
+    {
+        Ok(Store {
+            rows,
+            lists,
+            consumers,
+            callers,
+            words: fresh_words(alloc, callers, rows)?,
+            drawers: no_drawers(alloc, rows)?,
+            entries: vec![in alloc; 0; callers as usize]?,
+            bytes: vec![in alloc; 0; callers as usize]?,
+        })
+    }
+}
