@@ -4,10 +4,12 @@ use Rattle.std.specs.Prelude.{slice_index, slice_set}
 use Rattle.std.specs.List.{position_or_len, AllByRecursion}
 use Rattle.std.proofs.lemmas.Bool.{cases_Bool, cond-false, eqb-false}
 use Rattle.acts_core.specs.declared.rows.Row.{Row}
+use Rattle.acts_core.specs.declared.rows.RowState.TheVariants.{Deleted}
 use Rattle.acts_core.specs.Keyed.{Apart}
 use Rattle.acts_core.specs.Sound.{same_number}
 use Rattle.acts_core.specs.State.{is_row, is_of_list}
 use Rattle.acts_core.proofs.KeyedLemmas.{find-here, find-past, find_none-head, find_none-tail, all-filter, position-here, position-past}
+use Rattle.link_core.specs.Laws.{LinkNames}
 use Rattle.link_core.specs.Stands.{Points, Chain}
 use Rattle.link_core.proofs.Frames.{set_here, set_else}
 
@@ -94,3 +96,13 @@ others_numbered a l (x ∷ xs) z apart found other = ⊎_elim
     elim (is_of_list l x) as (λ b. AllByRecursion (λ y. y.number ≢ a) (cond b (x ∷ filter (is_of_list l) xs) (filter (is_of_list l) xs)))
     [ true ↦ (eqb-false x.number a miss, rest) | false ↦ rest ])
     (cases_Bool (is_row a x))
+
+-- where a link leads
+pub link_names : LinkNames
+link_names w [] points = inl (points, refl)
+link_names w (x ∷ xs) (inl e) = inr ([], x, xs, refl, tt, e)
+link_names w (x ∷ xs) (inr p) = ⊎_elim
+    (λ (none : (w ≡ 0) × (xs ≡ [])). absurd (p.1 none.0))
+    (λ (some : (front : List Row) × (y : Row) × (back : List Row) × (xs ≡ front ++ y ∷ back) × AllByRecursion (λ y. y.state ≡ Deleted) front × (w ≡ suc y.number)).
+    inr (x ∷ some.0, some.1, some.2, ap (λ (ys : List Row). x ∷ ys) some.3, (p.0, some.4), some.5))
+    (link_names w xs p.2)

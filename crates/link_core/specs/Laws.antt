@@ -1,11 +1,24 @@
--- the law of lists of steps
-use Rattle.std.specs.Prelude.{ℕ, ◌≤◌, List}
+-- the law of lists of steps, and what it is made of; each is proved as the contract of a function in src/laws.rt
+use Rattle.std.specs.Prelude.{◌≡◌, ◌⊎◌, ℕ, suc, ◌≤◌, List, [], ◌∷◌, ◌++◌}
+use Rattle.std.specs.List.{AllByRecursion}
+use Rattle.acts_core.specs.declared.queues.Queue.{Queue}
+use Rattle.acts_core.specs.declared.rows.Row.{Row}
+use Rattle.acts_core.specs.declared.rows.RowState.TheVariants.{Deleted}
 use Rattle.acts_core.specs.declared.steps.Step.{Step}
 use Rattle.acts_core.specs.History.{after, Legal}
 use Rattle.acts_core.specs.State.{empty}
 use Rattle.link_core.specs.Fresh.{fresh}
-use Rattle.link_core.specs.Stands.{Stands}
-use Rattle.link_core.specs.Steps.{AllFit, all_moved, all_deeds}
+use Rattle.link_core.specs.Stands.{Points, Stands}
+use Rattle.link_core.specs.Steps.{Fits, moved, deed, AllFit, all_moved, all_deeds}
+use Rattle.link_core.specs.Table.{Table}
+
+-- The words of a fresh table stand for an empty queue.
+abbrev pub FreshLaw : Type 0
+FreshLaw = (lists rows consumers callers : ℕ) → lists ≤ 10 → rows ≤ 524288 → consumers ≤ 64 → callers ≤ 4294967296 → Stands (fresh lists rows consumers callers) (empty lists consumers)
+
+-- Where the words stand for a state, the deed of a step that fits is legal there, and the words afterwards stand for the state after it.
+abbrev pub StepLaw : Type 0
+StepLaw = (t : Table) (q : Queue) (h : ℕ) (step : Step) → Stands t q → Fits t h step → Legal q (deed t h step) × Stands (moved t h step) (after q (deed t h step))
 
 -- After every list of steps that fit, from a fresh table on, the deeds of the steps are a legal history, and the words stand
 -- for the state after it.
@@ -14,3 +27,8 @@ Law = (lists rows consumers callers : ℕ) (steps : List (ℕ × Step)) → list
     → AllFit (fresh lists rows consumers callers) steps
     → Legal (empty lists consumers) (all_deeds (fresh lists rows consumers callers) steps)
     × Stands (all_moved (fresh lists rows consumers callers) steps) (after (empty lists consumers) (all_deeds (fresh lists rows consumers callers) steps))
+
+-- A link that points as it should is empty where no row stands behind it. Else it names one of the rows behind it, and each row before that one is deleted.
+abbrev pub LinkNames : Type 0
+LinkNames = (w : ℕ) (rows : List Row) → Points w rows
+    → ((w ≡ 0) × (rows ≡ [])) ⊎ ((front : List Row) × (x : Row) × (back : List Row) × (rows ≡ front ++ x ∷ back) × AllByRecursion (λ y. y.state ≡ Deleted) front × (w ≡ suc x.number))
