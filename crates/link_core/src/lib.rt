@@ -12,4 +12,6 @@ mod store;
 pub use stepping::{Unfit, Words};
 
 #[cfg(test)]
+mod step_lists;
+#[cfg(test)]
 mod tests;
