@@ -20,7 +20,7 @@ use Rattle.acts_core.proofs.Owns.{own_dequeue_reserves}
 use Rattle.acts_core.proofs.SoundSteps.{sound_step}
 use Rattle.link_core.specs.Layout.{pack_state, pack_depth}
 use Rattle.link_core.specs.Stands.{States, Drafts, IsDrafted, Links, StandsIn, Tails, Marks, Draws, Stands}
-use Rattle.link_core.specs.Steps.{FitsState, goes_to, reserved_after, act_of, changed_by, size_in}
+use Rattle.link_core.specs.Steps.{FitsState, goes_to, reserved_after, act_with, changed_by, size_in}
 use Rattle.link_core.specs.Table.{Table, but, IsLinked}
 use Rattle.link_core.proofs.Frames.{but_same, set_here, set_else, drafts_else, links_else, tails_else, marks_else, bells_else, depth_else, shaped_set, draft_low, draft_high}
 use Rattle.link_core.proofs.Packing.{pack_same}
@@ -129,44 +129,44 @@ row_of_change t q h r change from s fits hit =
     let row = linked_row t q r s fits.row in (row.0, row.1, pack_same row.0.state from (sym (s.states r row.0 row.1) ∙ hit))
 
 -- a step on a state word that shows the expected state
-pub state_step : (t : Table) (q : Queue) (h r : ℕ) (change : Change) (from : RowState) → Stands t q → FitsState t h r change from → slice_index t.words (684 + 7 * r) ≡ pack_state from
-    → Can q h (act_of change r) × Stands (changed_by t h (State r change from)) (acted q h (act_of change r))
-state_step t q h r Acq from s fits hit =
+pub state_step : (t : Table) (q : Queue) (h r n : ℕ) (change : Change) (from : RowState) → Stands t q → FitsState t h r change from → slice_index t.words (684 + 7 * r) ≡ pack_state from
+    → Can q h (act_with n change r) × Stands (changed_by t h (State r change from)) (acted q h (act_with n change r))
+state_step t q h r n Acq from s fits hit =
     let row = row_of_change t q h r Acq from s fits hit in
     let can : Can q h (acts.Acq r) = (row.0, row.1, row.2 ∙ fits.goes) in (
       can,
       state_kept q r (in_state (Locked h)) row.0 (goods_in (Locked h)) row.1 t h Acq from q.reserved s refl (λ gone. let bad : Available ≡ Deleted = sym can.2 ∙ gone in absurd (cc))
           (sound_step q h (acts.Acq r) can s.sound) (depth_kept q h (acts.Acq r) can tt) (λ k. s.reserved k ∙ sym (but_same t.reserved h k)),
     )
-state_step t q h r Lock from s fits hit =
+state_step t q h r n Lock from s fits hit =
     let row = row_of_change t q h r Lock from s fits hit in
     let can : Can q h (acts.Lock r) = (row.0, row.1, row.2 ∙ fits.goes) in (
       can,
       state_kept q r (in_state (Locked h)) row.0 (goods_in (Locked h)) row.1 t h Lock from q.reserved s refl (λ gone. let bad : Unlocked h ≡ Deleted = sym can.2 ∙ gone in absurd (cc))
           (sound_step q h (acts.Lock r) can s.sound) (depth_kept q h (acts.Lock r) can tt) (λ k. s.reserved k ∙ sym (but_same t.reserved h k)),
     )
-state_step t q h r Unlock from s fits hit =
+state_step t q h r n Unlock from s fits hit =
     let row = row_of_change t q h r Unlock from s fits hit in
-    let can : Can q h (acts.Unlock r 0) = (row.0, row.1, row.2 ∙ fits.goes) in (
+    let can : Can q h (acts.Unlock r n) = (row.0, row.1, row.2 ∙ fits.goes) in (
       can,
-      state_kept q r (left_in (Unlocked h) 0) row.0 (goods_left (Unlocked h) 0) row.1 t h Unlock from q.reserved s refl (λ gone. let bad : Locked h ≡ Deleted = sym can.2 ∙ gone in absurd (cc))
-          (sound_step q h (acts.Unlock r 0) can s.sound) (depth_kept q h (acts.Unlock r 0) can tt) (λ k. s.reserved k ∙ sym (but_same t.reserved h k)),
+      state_kept q r (left_in (Unlocked h) n) row.0 (goods_left (Unlocked h) n) row.1 t h Unlock from q.reserved s refl (λ gone. let bad : Locked h ≡ Deleted = sym can.2 ∙ gone in absurd (cc))
+          (sound_step q h (acts.Unlock r n) can s.sound) (depth_kept q h (acts.Unlock r n) can tt) (λ k. s.reserved k ∙ sym (but_same t.reserved h k)),
     )
-state_step t q h r Steal from s fits hit =
+state_step t q h r n Steal from s fits hit =
     let row = row_of_change t q h r Steal from s fits hit in
     let can : Can q h (acts.Steal r) = (fits.goes.0, (row.0, row.1, row.2 ∙ fits.goes.1)) in (
       can,
       state_kept q r (in_state (Locked h)) row.0 (goods_in (Locked h)) row.1 t h Steal from q.reserved s refl (λ gone. let bad : Unlocked fits.goes.0 ≡ Deleted = sym can.1.2 ∙ gone in absurd (cc))
           (sound_step q h (acts.Steal r) can s.sound) (depth_kept q h (acts.Steal r) can tt) (λ k. s.reserved k ∙ sym (but_same t.reserved h k)),
     )
-state_step t q h r Rel from s fits hit =
+state_step t q h r n Rel from s fits hit =
     let row = row_of_change t q h r Rel from s fits hit in
-    let can : Can q h (acts.Rel r 0) = (row.0, row.1, row.2 ∙ fits.goes) in (
+    let can : Can q h (acts.Rel r n) = (row.0, row.1, row.2 ∙ fits.goes) in (
       can,
-      state_kept q r (left_in Available 0) row.0 (goods_left Available 0) row.1 t h Rel from q.reserved s refl (λ gone. let bad : Locked h ≡ Deleted = sym can.2 ∙ gone in absurd (cc))
-          (sound_step q h (acts.Rel r 0) can s.sound) (depth_kept q h (acts.Rel r 0) can tt) (λ k. s.reserved k ∙ sym (but_same t.reserved h k)),
+      state_kept q r (left_in Available n) row.0 (goods_left Available n) row.1 t h Rel from q.reserved s refl (λ gone. let bad : Locked h ≡ Deleted = sym can.2 ∙ gone in absurd (cc))
+          (sound_step q h (acts.Rel r n) can s.sound) (depth_kept q h (acts.Rel r n) can tt) (λ k. s.reserved k ∙ sym (but_same t.reserved h k)),
     )
-state_step t q h r Deq from s fits hit =
+state_step t q h r n Deq from s fits hit =
     let row = row_of_change t q h r Deq from s fits hit in
     let can : Can q h (acts.Deq r) = (row.0, row.1, row.2 ∙ fits.goes) in
     let size : size_at q r ≡ size_in t r = size_found q r row.0 row.1 ∙ sym (s.drafted r row.0 row.1).size in (
@@ -175,7 +175,7 @@ state_step t q h r Deq from s fits hit =
           (sound_step q h (acts.Deq r) can s.sound) (depth_kept q h (acts.Deq r) can tt)
           (reserved_after_act t q h (acts.Deq r) (with_more (t.reserved h) (size_in t r)) s.reserved (own_dequeue_reserves q h r ∙ ap₂ with_more (s.reserved h) size)),
     )
-state_step t q h r Del from s fits hit =
+state_step t q h r n Del from s fits hit =
     let row = row_of_change t q h r Del from s fits hit in
     let can : Can q h (acts.Del r) = (row.0, row.1, row.2 ∙ fits.goes) in (
       can,

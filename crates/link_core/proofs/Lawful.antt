@@ -1,5 +1,5 @@
 -- each step that fits is its deed, and so is each list of steps
-use Rattle.std.proofs.Common.{◌≡◌, ℕ, Result, Ok, Err, Bool, true, false, cond, List, [], ◌∷◌, sym, subst, ⊎_elim, eqb-true}
+use Rattle.std.proofs.Common.{replicate, ◌≡◌, ℕ, Result, Ok, Err, Bool, true, false, cond, List, [], ◌∷◌, sym, subst, ⊎_elim, eqb-true}
 use Rattle.std.proofs.lemmas.Bool.{cases_Bool, ltb-true}
 use Rattle.acts_core.specs.declared.queues.Queue.{Queue}
 use Rattle.acts_core.specs.declared.steps.Step.{Step}
@@ -11,7 +11,7 @@ use Rattle.link_core.specs.Fresh.{fresh}
 use Rattle.link_core.specs.Laws.{Law}
 use Rattle.link_core.specs.Layout.{pack_state}
 use Rattle.link_core.specs.Stands.{Stands}
-use Rattle.link_core.specs.Steps.{Fits, shown, hits, changed_by, acts_in, moved, deed, AllFit, all_moved, all_deeds}
+use Rattle.link_core.specs.Steps.{Fits, size_in, shown, hits, changed_by, acts_in, moved, deed, AllFit, all_moved, all_deeds}
 use Rattle.link_core.specs.Advanced.{Advances}
 use Rattle.link_core.specs.declared.stepping.Unfit.{Unfit}
 use Rattle.link_core.specs.declared.store.Store.{Store}
@@ -28,10 +28,10 @@ use Rattle.link_core.proofs.Reserving.{reserve_kept, give_back_kept}
 pub hit_step : (t : Table) (q : Queue) (h : ℕ) (step : Step) → Stands t q → Fits t h step → hits t step ≡ true → Legal q (deeds_of h (acts_in t step)) × Stands (changed_by t h step) (after q (deeds_of h (acts_in t step)))
 hit_step t q h Draw s fits hit = (tt, draw_kept t q h s (ltb-true (top t) t.rows hit))
 hit_step t q h (Draft r w value) s fits hit = (tt, draft_kept t q h r w value s fits)
-hit_step t q h (Link r node) s fits hit = let p = link_step t q h r node s fits (eqb-true (shown t (Link r node)) 0 hit) in ((p.0, tt), p.1)
+hit_step t q h (Link r node) s fits hit = let p = link_step t q h r node (replicate (size_in t r) 0) [] 0 s fits (eqb-true (shown t (Link r node)) 0 hit) in ((p.0, tt), p.1)
 hit_step t q h (HelpTail l from to) s fits hit = (tt, help_step t q h l from to s fits)
 hit_step t q h (Load name) s fits hit = let bad : false ≡ true = hit in absurd (cc)
-hit_step t q h (State r change from) s fits hit = let p = state_step t q h r change from s fits (eqb-true (shown t (State r change from)) (pack_state from) hit) in ((p.0, tt), p.1)
+hit_step t q h (State r change from) s fits hit = let p = state_step t q h r 0 change from s fits (eqb-true (shown t (State r change from)) (pack_state from) hit) in ((p.0, tt), p.1)
 hit_step t q h (Reserve size) s fits hit = let p = reserve_kept t q h size s fits.0 fits.1 in ((p.0, tt), p.1)
 hit_step t q h (GiveBack size) s fits hit = let p = give_back_kept t q h size s fits in ((p.0, tt), p.1)
 

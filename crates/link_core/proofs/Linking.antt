@@ -1,11 +1,9 @@
 -- a row that is linked
 use Rattle.std.proofs.Common.{◌≡◌, ◌≢◌, ◌⊎◌, inl, inr, ℕ, suc, ◌+◌, ◌*◌, ◌^◌, ◌<◌, Some, None, IsSome, List, [], ◌∷◌, ◌++◌, find, length, refl, sym, ap, ap₂, ◌∙◌, subst, ⊎_elim, eq-eqb, ne_eqb, append-nil, arith}
-use Rattle.std.specs.Prelude.{slice_index, slice_set, replicate}
+use Rattle.std.specs.Prelude.{slice_index, slice_set}
 use Rattle.std.specs.List.{position_or_len, AllByRecursion}
 use Rattle.std.proofs.lemmas.Bool.{cases_eq, cond-true, cond-false}
 use Rattle.std.proofs.lemmas.List.Elements.{filter-append}
-use Rattle.acts_core.specs.declared.deeds.Act.{Act}
-use Rattle.acts_core.specs.declared.deeds.Act.TheVariants as acts
 use Rattle.acts_core.specs.declared.queues.Queue.{Queue}
 use Rattle.acts_core.specs.declared.queues.Reservation.{Reservation}
 use Rattle.acts_core.specs.declared.rows.Row.{Row}
@@ -26,7 +24,7 @@ use Rattle.acts_core.proofs.SoundSteps.{sound_step, row_fits, list_found}
 use Rattle.acts_core.proofs.Stable.{found_in_list, place_step, new_step}
 use Rattle.link_core.specs.Layout.{link_of, draft_of, pack_state, pack_depth}
 use Rattle.link_core.specs.Stands.{States, Drafts, IsDrafted, Chain, Links, StandsIn, Tails, Marks, Draws, Stands}
-use Rattle.link_core.specs.Steps.{FitsLink, changed_by, slip_in, size_in, mask_in, list_in, place_behind}
+use Rattle.link_core.specs.Steps.{FitsLink, enqueue_with, changed_by, slip_in, size_in, mask_in, list_in, place_behind}
 use Rattle.link_core.specs.Table.{Table, but, IsNode, list_of_node}
 use Rattle.link_core.proofs.Chaining.{Among, among_start, among_found, chain_more, empty_list, last_place, others_numbered}
 use Rattle.link_core.proofs.Changing.{linked_row}
@@ -104,16 +102,12 @@ node_facts t q (nodes.Head m) l s lt e = subst (λ (k : ℕ). NodeFacts t q (nod
 node_facts t q (nodes.Row a) l s linked e = let row = linked_row t q a s linked in row_facts t q a l row.0 s row.1 e
 
 -- the new row
-abbrev new_row : Table → ℕ → Row
-new_row t r = record { number = r; slip = slip_in t r; state = Available; content = replicate (size_in t r) 0; origin = []; count = 0 }
-
--- the act
-abbrev enqueue : Table → ℕ → Act
-enqueue t r = acts.Enq r (slip_in t r) (replicate (size_in t r) 0) [] 0
+abbrev new_row : Table → ℕ → List ℕ → List ℕ → ℕ → Row
+new_row t r content origin n = record { number = r; slip = slip_in t r; state = Available; content = content; origin = origin; count = n }
 
 -- the act has a step
-can_enqueue : (t : Table) (q : Queue) (h r : ℕ) (node : Node) → Stands t q → FitsLink t h r node → Can q h (enqueue t r)
-can_enqueue t q h r node s fits = record {
+can_enqueue : (t : Table) (q : Queue) (h r : ℕ) (node : Node) (content origin : List ℕ) (n : ℕ) → Stands t q → FitsLink t h r node → Can q h (enqueue_with t r content origin n)
+can_enqueue t q h r node content origin n s fits = record {
   new = not_linked t q h r s fits.drawn.drawer;
   size = fits.behind.size;
   list = omega (arith, fits.behind.list, (node_facts t q node (list_of_node t node) s fits.node refl).low, s.shaped.lists);
@@ -122,74 +116,74 @@ can_enqueue t q h r node s fits = record {
 }
 
 -- The row r of caller h is linked behind a node of its list whose link, the word i, is empty.
-module _ (t : Table) (q : Queue) (h r : ℕ) (node : Node) (s : Stands t q) (fits : FitsLink t h r node) (i : ℕ) (facts : NodeFacts t q node (list_in t r) i) (empty : slice_index t.words i ≡ 0) where
-  can : Can q h (enqueue t r)
-  can = can_enqueue t q h r node s fits
+module _ (t : Table) (q : Queue) (h r : ℕ) (node : Node) (content origin : List ℕ) (n : ℕ) (s : Stands t q) (fits : FitsLink t h r node) (i : ℕ) (facts : NodeFacts t q node (list_in t r) i) (empty : slice_index t.words i ≡ 0) where
+  can : Can q h (enqueue_with t r content origin n)
+  can = can_enqueue t q h r node content origin n s fits
 
   none : row_at q r ≡ None
   none = not_linked t q h r s fits.drawn.drawer
 
-  there : row_at (acted q h (enqueue t r)) r ≡ Some (new_row t r)
-  there = own_enqueued q h r (slip_in t r) (replicate (size_in t r) 0) [] 0 can
+  there : row_at (acted q h (enqueue_with t r content origin n)) r ≡ Some (new_row t r content origin n)
+  there = own_enqueued q h r (slip_in t r) content origin n can
 
   -- a row afterwards is the new one, or one from before
-  row_found : (k : ℕ) (y : Row) → row_at (acted q h (enqueue t r)) k ≡ Some y → ((k ≡ r) × (y ≡ new_row t r)) ⊎ ((k ≢ r) × (row_at q k ≡ Some y))
+  row_found : (k : ℕ) (y : Row) → row_at (acted q h (enqueue_with t r content origin n)) k ≡ Some y → ((k ≡ r) × (y ≡ new_row t r content origin n)) ⊎ ((k ≢ r) × (row_at q k ≡ Some y))
   row_found k y e = ⊎_elim
       (λ (same : k ≡ r).
-      let both : Some y ≡ Some (new_row t r) = sym e ∙ ap (row_at (acted q h (enqueue t r))) same ∙ there in inl (same, cc))
-      (λ (other : k ≢ r). inr (other, sym (row_push_other k q.rows (new_row t r) (λ back. other (sym back))) ∙ e))
+      let both : Some y ≡ Some (new_row t r content origin n) = sym e ∙ ap (row_at (acted q h (enqueue_with t r content origin n))) same ∙ there in inl (same, cc))
+      (λ (other : k ≢ r). inr (other, sym (row_push_other k q.rows (new_row t r content origin n) (λ back. other (sym back))) ∙ e))
       (cases_eq k r)
 
   -- a row from before is still there
-  row_kept : (k : ℕ) (y : Row) → row_at q k ≡ Some y → row_at (acted q h (enqueue t r)) k ≡ Some y
-  row_kept k y e = find-append (is_row k) q.rows (new_row t r ∷ []) y e
+  row_kept : (k : ℕ) (y : Row) → row_at q k ≡ Some y → row_at (acted q h (enqueue_with t r content origin n)) k ≡ Some y
+  row_kept k y e = find-append (is_row k) q.rows (new_row t r content origin n ∷ []) y e
 
   -- a number that is free afterwards was free, and is not the new row's
-  none_kept : (k : ℕ) → row_at (acted q h (enqueue t r)) k ≡ None → (k ≢ r) × (row_at q k ≡ None)
-  none_kept k e = ((λ same. let bad : None ≡ Some (new_row t r) = sym e ∙ ap (row_at (acted q h (enqueue t r))) same ∙ there in absurd (cc)), new_step q h (enqueue t r) k e)
+  none_kept : (k : ℕ) → row_at (acted q h (enqueue_with t r content origin n)) k ≡ None → (k ≢ r) × (row_at q k ≡ None)
+  none_kept k e = ((λ same. let bad : None ≡ Some (new_row t r content origin n) = sym e ∙ ap (row_at (acted q h (enqueue_with t r content origin n))) same ∙ there in absurd (cc)), new_step q h (enqueue_with t r content origin n) k e)
 
-  states_linked : States (slice_set t.words i (suc r)) (acted q h (enqueue t r))
+  states_linked : States (slice_set t.words i (suc r)) (acted q h (enqueue_with t r content origin n))
   states_linked k y e = ⊎_elim
-      (λ (p : (k ≡ r) × (y ≡ new_row t r)).
+      (λ (p : (k ≡ r) × (y ≡ new_row t r content origin n)).
       set_else t.words i (suc r) (684 + 7 * k) (facts.states k) ∙ ap (λ (n : ℕ). slice_index t.words (684 + 7 * n)) p.0 ∙ s.draws.unset r fits.drawn.row none ∙ ap (λ (z : Row). pack_state z.state) (sym p.1))
       (λ (p : (k ≢ r) × (row_at q k ≡ Some y)). set_else t.words i (suc r) (684 + 7 * k) (facts.states k) ∙ s.states k y p.1)
       (row_found k y e)
 
   -- the draft words of the new row tell its slip, and its place at the end of its list
-  drafted_new : IsDrafted (slice_set t.words i (suc r)) r (place_at (acted q h (enqueue t r)) r) (slip_in t r)
+  drafted_new : IsDrafted (slice_set t.words i (suc r)) r (place_at (acted q h (enqueue_with t r content origin n)) r) (slip_in t r)
   drafted_new = record {
     mask = set_else t.words i (suc r) (685 + 7 * r) (facts.drafted r drafts.Mask);
-    place = set_else t.words i (suc r) (686 + 7 * r) (facts.drafted r drafts.Place) ∙ fits.behind.place ∙ facts.place empty ∙ sym (own_enqueued_last q h r (slip_in t r) (replicate (size_in t r) 0) [] 0 can);
+    place = set_else t.words i (suc r) (686 + 7 * r) (facts.drafted r drafts.Place) ∙ fits.behind.place ∙ facts.place empty ∙ sym (own_enqueued_last q h r (slip_in t r) content origin n can);
     ident = set_else t.words i (suc r) (687 + 7 * r) (facts.drafted r drafts.Ident);
     size = set_else t.words i (suc r) (688 + 7 * r) (facts.drafted r drafts.Size);
     list = set_else t.words i (suc r) (689 + 7 * r) (facts.drafted r drafts.List);
   }
 
-  drafts_linked : Drafts (slice_set t.words i (suc r)) (acted q h (enqueue t r))
+  drafts_linked : Drafts (slice_set t.words i (suc r)) (acted q h (enqueue_with t r content origin n))
   drafts_linked k y e = ⊎_elim
-      (λ (p : (k ≡ r) × (y ≡ new_row t r)).
-      subst (λ (n : ℕ). IsDrafted (slice_set t.words i (suc r)) n (place_at (acted q h (enqueue t r)) n) y.slip) (sym p.0)
-      (subst (λ (z : Row). IsDrafted (slice_set t.words i (suc r)) r (place_at (acted q h (enqueue t r)) r) z.slip) (sym p.1) drafted_new))
+      (λ (p : (k ≡ r) × (y ≡ new_row t r content origin n)).
+      subst (λ (m : ℕ). IsDrafted (slice_set t.words i (suc r)) m (place_at (acted q h (enqueue_with t r content origin n)) m) y.slip) (sym p.0)
+      (subst (λ (z : Row). IsDrafted (slice_set t.words i (suc r)) r (place_at (acted q h (enqueue_with t r content origin n)) r) z.slip) (sym p.1) drafted_new))
       (λ (p : (k ≢ r) × (row_at q k ≡ Some y)).
-      subst (λ (n : ℕ). IsDrafted (slice_set t.words i (suc r)) k n y.slip) (sym (place_step q h (enqueue t r) k y p.1))
+      subst (λ (m : ℕ). IsDrafted (slice_set t.words i (suc r)) k m y.slip) (sym (place_step q h (enqueue_with t r content origin n) k y p.1))
       (drafts_else t.words i (suc r) q (λ m z found w. facts.drafted m w) s.drafted k y p.1))
       (row_found k y e)
 
   -- the list of the new row ends with it
-  longer : (l : ℕ) → l ≡ list_in t r → rows_of (acted q h (enqueue t r)) l ≡ rows_of q l ++ new_row t r ∷ []
-  longer l e = filter-append (is_of_list l) q.rows (new_row t r ∷ []) ∙ ap (λ (ys : List Row). rows_of q l ++ ys) (cond-true (is_of_list l (new_row t r)) (new_row t r ∷ []) [] (eq-eqb (list_in t r) l (sym e)))
+  longer : (l : ℕ) → l ≡ list_in t r → rows_of (acted q h (enqueue_with t r content origin n)) l ≡ rows_of q l ++ new_row t r content origin n ∷ []
+  longer l e = filter-append (is_of_list l) q.rows (new_row t r content origin n ∷ []) ∙ ap (λ (ys : List Row). rows_of q l ++ ys) (cond-true (is_of_list l (new_row t r content origin n)) (new_row t r content origin n ∷ []) [] (eq-eqb (list_in t r) l (sym e)))
 
   -- and no other list changes
-  as_long : (l : ℕ) → l ≢ list_in t r → rows_of (acted q h (enqueue t r)) l ≡ rows_of q l
+  as_long : (l : ℕ) → l ≢ list_in t r → rows_of (acted q h (enqueue_with t r content origin n)) l ≡ rows_of q l
   as_long l ne =
-      filter-append (is_of_list l) q.rows (new_row t r ∷ []) ∙ ap (λ (ys : List Row). rows_of q l ++ ys) (cond-false (is_of_list l (new_row t r)) (new_row t r ∷ []) [] (ne_eqb (list_in t r) l (λ e. ne (sym e))))
+      filter-append (is_of_list l) q.rows (new_row t r content origin n ∷ []) ∙ ap (λ (ys : List Row). rows_of q l ++ ys) (cond-false (is_of_list l (new_row t r content origin n)) (new_row t r content origin n ∷ []) [] (ne_eqb (list_in t r) l (λ e. ne (sym e))))
       ∙ append-nil (rows_of q l)
 
-  links_linked : Links t.lists (slice_set t.words i (suc r)) (acted q h (enqueue t r))
+  links_linked : Links t.lists (slice_set t.words i (suc r)) (acted q h (enqueue_with t r content origin n))
   links_linked l lt = ⊎_elim
       (λ (e : l ≡ list_in t r).
       subst (λ (rows : List Row). Chain (slice_set t.words i (suc r)) (slice_index (slice_set t.words i (suc r)) (3 + l)) rows) (sym (longer l e))
-      (chain_more t.words i (3 + l) (rows_of q l) (new_row t r) facts.long empty (s.draws.unlinked r fits.drawn.row none) (facts.new r none)
+      (chain_more t.words i (3 + l) (rows_of q l) (new_row t r content origin n) facts.long empty (s.draws.unlinked r fits.drawn.row none) (facts.new r none)
       (subst (λ (m : ℕ). Among i (3 + m) (rows_of q m)) (sym e) facts.among) (s.links l lt)))
       (λ (ne : l ≢ list_in t r).
       subst (λ (rows : List Row). Chain (slice_set t.words i (suc r)) (slice_index (slice_set t.words i (suc r)) (3 + l)) rows) (sym (as_long l ne))
@@ -198,31 +192,31 @@ module _ (t : Table) (q : Queue) (h r : ℕ) (node : Node) (s : Stands t q) (fit
       (cases_eq l (list_in t r))
 
   -- a row that stands in a list still does
-  in_list_linked : (l k : ℕ) → StandsIn (row_at q) l k → StandsIn (row_at (acted q h (enqueue t r))) l k
+  in_list_linked : (l k : ℕ) → StandsIn (row_at q) l k → StandsIn (row_at (acted q h (enqueue_with t r content origin n))) l k
   in_list_linked l k stands = record { row = stands.row; found = row_kept k stands.row stands.found; list = stands.list }
 
-  tails_linked : (words : List ℕ) → Tails t.lists words q → Tails t.lists words (acted q h (enqueue t r))
+  tails_linked : (words : List ℕ) → Tails t.lists words q → Tails t.lists words (acted q h (enqueue_with t r content origin n))
   tails_linked words tails l lt = ⊎_elim (λ (e : slice_index words (13 + l) ≡ 0). inl e)
       (λ (p : (k : ℕ) × StandsIn (row_at q) l k × (slice_index words (13 + l) ≡ suc k)). inr (p.0, in_list_linked l p.0 p.1, p.2))
       (tails l lt)
 
-  marks_linked : (words : List ℕ) → Marks t.lists words q → Marks t.lists words (acted q h (enqueue t r))
+  marks_linked : (words : List ℕ) → Marks t.lists words q → Marks t.lists words (acted q h (enqueue_with t r content origin n))
   marks_linked words marks l lt = ⊎_elim (λ (e : slice_index words (23 + l) ≡ 0). inl e)
       (λ (p : (k : ℕ) × StandsIn (row_at q) l k × (slice_index words (23 + l) ≡ place_at q k)).
-      inr (p.0, in_list_linked l p.0 p.1, p.2 ∙ sym (place_step q h (enqueue t r) p.0 p.1.row p.1.found)))
+      inr (p.0, in_list_linked l p.0 p.1, p.2 ∙ sym (place_step q h (enqueue_with t r content origin n) p.0 p.1.row p.1.found)))
       (marks l lt)
 
-  draws_linked : Draws t.rows (slice_set t.words i (suc r)) (but t.drawer r None) (row_at (acted q h (enqueue t r)))
+  draws_linked : Draws t.rows (slice_set t.words i (suc r)) (but t.drawer r None) (row_at (acted q h (enqueue_with t r content origin n)))
   draws_linked =
       let same : slice_index (slice_set t.words i (suc r)) 0 ≡ slice_index t.words 0 = set_else t.words i (suc r) 0 facts.first in
       let below : r < slice_index t.words 0 = s.draws.low r h fits.drawn.drawer in record {
         top = omega (arith, same, s.draws.top);
         below = λ k y e. ⊎_elim
-            (λ (p : (k ≡ r) × (y ≡ new_row t r)). let e = p.0 in omega (arith, same, below))
+            (λ (p : (k ≡ r) × (y ≡ new_row t r content origin n)). let e = p.0 in omega (arith, same, below))
             (λ (p : (k ≢ r) × (row_at q k ≡ Some y)). omega (arith, same, s.draws.below k y p.1))
             (row_found k y e);
         free = λ k y e. ⊎_elim
-            (λ (p : (k ≡ r) × (y ≡ new_row t r)). subst (λ (n : ℕ). but t.drawer r None n ≡ None) (sym p.0) (but_here t.drawer r None))
+            (λ (p : (k ≡ r) × (y ≡ new_row t r content origin n)). subst (λ (n : ℕ). but t.drawer r None n ≡ None) (sym p.0) (but_here t.drawer r None))
             (λ (p : (k ≢ r) × (row_at q k ≡ Some y)). but_else t.drawer r None k p.0 ∙ s.draws.free k y p.1)
             (row_found k y e);
         drawn = λ k free lt. let p = none_kept k free in subst IsSome (sym (but_else t.drawer r None k p.0)) (s.draws.drawn k p.1 (omega (arith, same)));
@@ -235,9 +229,9 @@ module _ (t : Table) (q : Queue) (h r : ℕ) (node : Node) (s : Stands t q) (fit
       }
 
   linked : (u : Table) → u ≡ record t { words = slice_set t.words i (suc r); drawer = but t.drawer r None; reserved = but t.reserved h (with_less (t.reserved h) (size_in t r)) }
-      → Stands u (acted q h (enqueue t r))
-  linked u is = let same = depth_kept q h (enqueue t r) can tt in subst (λ (w : Table). Stands w (acted q h (enqueue t r))) (sym is) (record {
-    sound = sound_step q h (enqueue t r) can s.sound;
+      → Stands u (acted q h (enqueue_with t r content origin n))
+  linked u is = let same = depth_kept q h (enqueue_with t r content origin n) can tt in subst (λ (w : Table). Stands w (acted q h (enqueue_with t r content origin n))) (sym is) (record {
+    sound = sound_step q h (enqueue_with t r content origin n) can s.sound;
     shaped = let shape = shaped_set t q i (suc r) t.drawer t.reserved s.shaped in
         record { lists = shape.lists; consumers = shape.consumers; few_lists = shape.few_lists; few_consumers = shape.few_consumers; few_rows = shape.few_rows; few_callers = shape.few_callers; long = shape.long };
     states = states_linked;
@@ -248,12 +242,12 @@ module _ (t : Table) (q : Queue) (h r : ℕ) (node : Node) (s : Stands t q) (fit
     bells = bells_else t.words i (suc r) t.consumers t.lists q facts.bells s.bells;
     depth = depth_else t.words i (suc r) q facts.depth s.depth ∙ ap₂ pack_depth (sym same.0) (sym same.1);
     draws = draws_linked;
-    reserved = reserved_after_act t q h (enqueue t r) (with_less (t.reserved h) (size_in t r)) s.reserved
+    reserved = reserved_after_act t q h (enqueue_with t r content origin n) (with_less (t.reserved h) (size_in t r)) s.reserved
         (own_giving q h (size_in t r) s.sound can.reserved ∙ ap (λ (v : Reservation). with_less v (size_in t r)) (s.reserved h));
   })
 
 -- a link behind a node whose link is empty
-pub link_step : (t : Table) (q : Queue) (h r : ℕ) (node : Node) → Stands t q → FitsLink t h r node → slice_index t.words (link_of node) ≡ 0
-    → Can q h (enqueue t r) × Stands (changed_by t h (Link r node)) (acted q h (enqueue t r))
-link_step t q h r node s fits empty =
-    (can_enqueue t q h r node s fits, linked t q h r node s fits (link_of node) (node_facts t q node (list_in t r) s fits.node (sym fits.behind.list)) empty (changed_by t h (Link r node)) refl)
+pub link_step : (t : Table) (q : Queue) (h r : ℕ) (node : Node) (content origin : List ℕ) (n : ℕ) → Stands t q → FitsLink t h r node → slice_index t.words (link_of node) ≡ 0
+    → Can q h (enqueue_with t r content origin n) × Stands (changed_by t h (Link r node)) (acted q h (enqueue_with t r content origin n))
+link_step t q h r node content origin n s fits empty =
+    (can_enqueue t q h r node content origin n s fits, linked t q h r node content origin n s fits (link_of node) (node_facts t q node (list_in t r) s fits.node (sym fits.behind.list)) empty (changed_by t h (Link r node)) refl)

@@ -113,6 +113,7 @@ IsPackable (Locked h) = h < 2 ^ 61
 IsPackable (Unlocked h) = h < 2 ^ 61
 IsPackable s = Unit {0}
 
+-- the row is linked, and the change goes on from the state that is expected
 pub record FitsState (t : Table) (h r : ℕ) (change : Change) (from : RowState) : Type 0 where
   pub row : IsLinked t r
   pub goes : GoesFrom h change from
@@ -208,20 +209,25 @@ changed_by t h s = record t { words = slice_set t.words (place_of_step s) (word_
 abbrev pub moved : Table → ℕ → Step → Table
 moved t h s = if hits t s then changed_by t h s else t
 
--- the act of a change of row r; counts are not told
-abbrev pub act_of : Change → ℕ → Act
-act_of Acq r = acts.Acq r
-act_of Lock r = acts.Lock r
-act_of Unlock r = acts.Unlock r 0
-act_of Steal r = acts.Steal r
-act_of Rel r = acts.Rel r 0
-act_of Deq r = acts.Deq r
-act_of Del r = acts.Del r
+-- the act of a change of row r, with a count where the act has one
+abbrev pub act_with : ℕ → Change → ℕ → Act
+act_with n Acq r = acts.Acq r
+act_with n Lock r = acts.Lock r
+act_with n Unlock r = acts.Unlock r n
+act_with n Steal r = acts.Steal r
+act_with n Rel r = acts.Rel r n
+act_with n Deq r = acts.Deq r
+act_with n Del r = acts.Del r
 
--- the acts of a step that changes its word: one or none; contents are not told, so that a new row has as many zeros as its size
+-- the act that links row r at the end of the list that its draft words tell, with a content, an origin and a count
+abbrev pub enqueue_with : Table → ℕ → List ℕ → List ℕ → ℕ → Act
+enqueue_with t r content origin n = acts.Enq r (slip_in t r) content origin n
+
+-- The acts of a step that changes its word: one or none. Contents and counts are not told: a content is as many zeros as the size, an
+-- origin is empty, and a count is 0.
 abbrev pub acts_in : Table → Step → List Act
-acts_in t (Link r node) = acts.Enq r (slip_in t r) (replicate (size_in t r) 0) [] 0 ∷ []
-acts_in t (State r change from) = act_of change r ∷ []
+acts_in t (Link r node) = enqueue_with t r (replicate (size_in t r) 0) [] 0 ∷ []
+acts_in t (State r change from) = act_with 0 change r ∷ []
 acts_in t (Reserve size) = acts.Reserve size ∷ []
 acts_in t (GiveBack size) = acts.GiveBack size ∷ []
 acts_in t step = []
