@@ -263,3 +263,27 @@ fn equal_names(rt: HostRuntime) {
     let made = Message::make(alloc, 1, false, 0, headers, body(&rt, alloc, b""));
     assert!(rt; matches!(made, Err(MessageFault::DoubleHeader)));
 }
+
+// So many headers, each with a name of its own.
+fn many(rt: &impl Abort, alloc: Global, count: u32) -> Vec<Header>
+    ensures { All IsReadable result.items }
+{
+    let mut headers = Vec::new(alloc);
+    'adding: for number in 0..count {
+        let name = format!(in alloc; "{number}").ok().expect(rt, "memory");
+        let added = header(rt, alloc, name.as_bytes(), HeaderValue::Bool(true));
+        add(rt, &mut headers, added);
+    }
+    headers
+}
+
+#[test]
+fn limits_of_headers(rt: HostRuntime) {
+    let alloc = rt.alloc();
+    let most = many(&rt, alloc, 65_535);
+    let made = Message::make(alloc, 1, false, 0, most, body(&rt, alloc, b""));
+    assert_eq!(rt; made.ok().expect(&rt, "a message").size(), 447_651);
+    let past = many(&rt, alloc, 65_536);
+    let made = Message::make(alloc, 1, false, 0, past, body(&rt, alloc, b""));
+    assert!(rt; matches!(made, Err(MessageFault::TooLong)));
+}
