@@ -59,7 +59,7 @@ fn is_packable(state: RowState) -> bool
 
 impl Store {
     /// A draft word of a row.
-    fn draft(&self, row: u64, word: DraftWord) -> u64
+    pub(crate) fn draft(&self, row: u64, word: DraftWord) -> u64
         requires kept { IsKept self.now }
         requires row { row < self.now.rows }
         ensures { result ≡ slice_index self.now.words.items (draft_of row word) }

@@ -9,7 +9,7 @@ ghost use Rattle.acts_core.specs.Laws.{with_less, with_more};
 
 use crate::places::{ENTRY_WORTH, node_word, state_word, step_place};
 use crate::stepping::Unfit;
-use acts_core::{Change, Reservation, RowState, Step};
+use acts_core::{Change, DraftWord, Reservation, RowState, Step};
 
 /// The words in their order, the drawer of each row that is not linked, and what each caller has reserved.
 #[derive(Debug, Drop)]
@@ -130,7 +130,7 @@ impl Store {
         requires row { row < self.now.rows }
         ensures { result ≡ size_in (table_in self.now) row }
     {
-        self.word(688 + 7 * row as usize)
+        self.draft(row, DraftWord::Size)
     }
 
     /// The word that a step leaves where it changes it.
