@@ -103,6 +103,14 @@ impl Buffer {
         self.items.clear();
     }
 
+    /// The bytes as a vector. Takes no memory.
+    pub fn into_vec(self) -> Vec<u8>
+        ensures { result.items ≡ self.bytes }
+    {
+        let Buffer { items } = self;
+        items
+    }
+
     /// The bytes.
     pub fn as_slice(&self) -> &[u8]
         ensures { result.now ≡ self.now.bytes }

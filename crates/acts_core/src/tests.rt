@@ -73,6 +73,8 @@ fn ample(rt: HostRuntime) -> Result<(), Fail> {
     assert_eq!(rt; buffer.as_slice(), b"abcd".as_slice());
     buffer.clear();
     assert_eq!(rt; buffer.as_slice(), b"".as_slice());
+    buffer.append(b"ef");
+    assert_eq!(rt; buffer.into_vec().as_slice(), b"ef".as_slice());
 
     assert!(rt; QueueState::fresh(alloc, 1, 0).is_ok());
     Ok(())
