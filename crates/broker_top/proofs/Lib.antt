@@ -1,6 +1,2 @@
-pub mod IdSets
-pub mod LineFeeds
-pub mod LineTexts
-pub mod OneLine
 pub mod Runs
-pub mod Scripts
+pub mod Simple

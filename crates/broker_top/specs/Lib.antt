@@ -1,9 +1,9 @@
-pub mod Message
-pub mod Texts
-pub mod Script
-pub mod Ids
 pub mod Run
-pub mod Fits
+pub mod Running
+pub mod Simple
+pub mod Job
+pub mod Faults
+pub mod Text
 pub mod Input
-pub mod Ends
 pub mod Codes
+pub mod Ends

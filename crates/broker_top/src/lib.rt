@@ -2,16 +2,16 @@
 //! bytes of the output and a status.
 #![tactic(auto)]
 
-pub mod input;
-pub mod lines;
-mod reading_lines;
-pub mod run;
-pub mod script;
-pub mod status;
-pub mod top;
+mod faults;
+mod input;
+mod job;
+mod run;
+mod running;
+mod status;
+mod text;
+mod top;
 
-pub use lines::{Answer, Line};
-pub use script::InputFault;
+pub use faults::InputFault;
 pub use status::Status;
 pub use top::{INPUT_LIMIT, run_command};
 

@@ -1,126 +1,117 @@
 //! Runs the lines of a script over one queue, and makes the text of the run.
-ghost use Rattle.std.specs.Prelude.{◌≡◌, ◌+◌, ◌<◌, ◌≤◌, ◌++◌, length, IfOk, OnOk, OnErr, string_bytes};
+ghost use Rattle.std.specs.Prelude.{◌≡◌, ◌+◌, ◌<◌, ◌≤◌, ◌^◌, ◌++◌, [], ◌∷◌, List, ℕ, Some, length, true, IfOk, OnOk};
+ghost use Rattle.std.specs.List.{list_all};
 ghost use Rattle.acts_core.specs.History.{Legal};
-ghost use Rattle.acts_core.specs.State.{empty, entries};
-ghost use Rattle.broker_top.specs.Run.{actor, answer_of, answer_text, depth_text, entry_text, history, next, queue_text, run_text, Steps};
-ghost use Rattle.broker_top.specs.Script.{most_puts, put_ids};
-ghost use Rattle.broker_top.specs.Fits.{AreSmall, FitsLine};
+ghost use Rattle.acts_core.specs.State.{bytes, empty, entries};
+ghost use Rattle.acts_core.specs.Table.{most_entries};
+ghost use Rattle.outside_io.specs.Told.{Adds};
+ghost use Rattle.report_core.specs.Texts.{answer_line, queue_lines};
+ghost use Rattle.report_core.specs.Words.{words};
+ghost use Rattle.broker_top.specs.Run.{answer_of, answers_text, final, history, rest_of, resting_in, run_text, start};
+ghost use Rattle.broker_top.specs.Running.{Counts, Steps, is_put, is_served, moment_of, puts_in};
+ghost use Rattle.broker_top.specs.Text.{written_of};
 
-use crate::lines::{Answer, Line};
-use acts_core::{NoMemory, RowState};
+use crate::running::{ACTOR, Running};
+use crate::text::Text;
+use acts_core::{Bytes, NoMemory, RowState};
 use plain_queue::PlainQueue;
-use std::alloc::{AllocError, Global};
+use report_core::{Resting, write_answer, write_queue};
+use script_read::Op;
+use std::alloc::Global;
 use std::collections::VecDeque;
+use std::slice;
 
-/// The caller whose lines a script has.
-const ACTOR: u64 = 1;
-
-/// Does one line on the queue.
-fn do_line(queue: &mut PlainQueue, line: Line) -> Result<Answer, NoMemory>
-    requires { FitsLine queue.old line }
-    ensures answer { IfOk result (λ answer. answer ≡ answer_of queue.old line) }
-    ensures steps { OnOk result (Steps queue.old line queue.new) }
-{
-    match line {
-        Line::Put { id, content } => match queue.put(id, content) {
-            Ok(()) => Ok(Answer::Accepted { id }),
-            Err(refused) => Err(refused),
-        },
-        Line::Take => match queue.take(ACTOR) {
-            Some(id) => Ok(Answer::Got { id }),
-            None => Ok(Answer::Empty),
-        },
-        Line::Ack { id } => {
-            if queue.ack(ACTOR, id) {
-                Ok(Answer::Acked { id })
-            } else {
-                Ok(Answer::NotHeld)
-            }
-        }
-    }
-}
-
-/// Writes a line's answer.
-fn write_answer(text: &mut String, number: u64, answer: Answer) -> Result<(), AllocError>
-    ensures { OnOk result (string_bytes text.new ≡ string_bytes text.old ++ answer_text number answer) }
-{
-    match answer {
-        Answer::Accepted { id } => writeln!(text, "a {number} ok {id}"),
-        Answer::Got { id } => writeln!(text, "a {number} got {id} 1"),
-        Answer::Empty => writeln!(text, "a {number} empty"),
-        Answer::Acked { id } => writeln!(text, "a {number} acked {id}"),
-        Answer::NotHeld => writeln!(text, "a {number} not-held"),
-    }
-}
-
-/// Does one line, and writes its answer.
+/// Runs one line, and writes its answer.
 fn run_line(
-    queue: &mut PlainQueue,
-    text: &mut String,
-    number: u64,
-    line: Line,
+    alloc: Global,
+    running: &mut Running,
+    text: &mut Text,
+    name: &Bytes,
+    op: Op,
 ) -> Result<(), NoMemory>
-    requires { FitsLine queue.old line }
-    ensures steps { OnOk result (Steps queue.old line queue.new) }
-    ensures told { OnOk result (string_bytes text.new ≡ string_bytes text.old ++ answer_text number (answer_of queue.old line)) }
+    requires served { is_served op.what ≡ true }
+    requires room { is_put op.what ≡ true → entries running.old.queue < most_entries }
+    ensures steps { (given : List ℕ) → Counts running.old.deliveries given → OnOk result (Steps running.old given op.what running.new) }
+    ensures told { (given : List ℕ) → Counts running.old.deliveries given → OnOk result (Adds (written_of text.old) (written_of text.new) (answer_line name.now op.line (words [] [] [] (answer_of (moment_of running.old given) op.what)))) }
 {
-    let answer = do_line(queue, line)?;
-    match write_answer(text, number, answer) {
+    let Op { line, what, .. } = op;
+    let answer = running.do_line(alloc, what)?;
+    match write_answer(text, name, line, &answer, &[], &[], &[]) {
         Ok(()) => Ok(()),
         Err(_) => Err(NoMemory),
     }
 }
 
-/// Writes an entry that is left.
-fn write_entry(text: &mut String, id: u64, state: RowState) -> Result<(), AllocError>
-    ensures { OnOk result (string_bytes text.new ≡ string_bytes text.old ++ entry_text id state) }
+/// Keeps a row of the queue as an entry that is left, where it is one.
+fn keep_row(rest: &mut Vec<Resting>, id: u64, size: u64, state: RowState) -> Result<(), NoMemory>
+    ensures { OnOk result (rest.new.items ≡ rest.old.items ++ resting_in id size state) }
 {
-    match state {
-        RowState::Available | RowState::Unlocked(_) => writeln!(text, "entry {id}"),
-        RowState::Locked(_) => writeln!(text, "entry {id} held a"),
-        RowState::Dequeued | RowState::Deleted => Ok(()),
+    let holder = match state {
+        RowState::Available | RowState::Unlocked(_) => None,
+        RowState::Locked(_) => Some(ACTOR),
+        RowState::Dequeued | RowState::Deleted => return Ok(()),
+    };
+    match rest.push(Resting { id, size, holder }) {
+        Ok(()) => Ok(()),
+        Err(_) => Err(NoMemory),
     }
 }
 
-/// Writes the queue's depth.
-fn write_depth(text: &mut String, queue: &PlainQueue) -> Result<(), AllocError>
-    ensures { OnOk result (string_bytes text.new ≡ string_bytes text.old ++ depth_text queue.now) }
+/// The entries that are left, in queue order.
+fn rest_of(alloc: Global, queue: &PlainQueue) -> Result<Vec<Resting>, NoMemory>
+    ensures rest { IfOk result (λ rest. rest.items ≡ rest_of queue.now) }
+    ensures small { OnOk result (bytes queue.now < 2 ^ 64) }
 {
-    let depth = queue.depth();
-    let entries = depth.entries;
-    let bytes = depth.bytes;
-    writeln!(text, "queue q {entries} {bytes}")
-}
-
-/// Writes the queue's depth, and each entry that is left.
-fn write_queue(text: &mut String, queue: &PlainQueue) -> Result<(), AllocError>
-    ensures { OnOk result (string_bytes text.new ≡ string_bytes text.old ++ queue_text queue.now) }
-{
-    write_depth(text, queue)?;
+    let entries = queue.depth().entries as usize;
+    let Ok(mut rest) = Vec::with_capacity(alloc, entries) else {
+        return Err(NoMemory);
+    };
     let mut place = 0;
-    'entries: while let Some((id, _, state)) = queue.row(place) {
-        write_entry(text, id, state)?;
+    'rows: while let Some((id, size, state)) = queue.row(place) {
+        keep_row(&mut rest, id, size, state)?;
         place += 1;
     }
-    Ok(())
+    Ok(rest)
 }
 
-/// Runs the lines in order over an empty queue, and gives the text of the run.
-pub fn run(alloc: Global, mut lines: VecDeque<Line>) -> Result<String, NoMemory>
-    requires puts { length (put_ids lines.items) ≤ most_puts }
-    requires small { AreSmall lines.items }
-    ensures text { IfOk result (λ text. string_bytes text ≡ run_text lines.items) }
-    ensures legal { OnOk result (Legal (empty 1 0) (history (empty 1 0) lines.items)) }
+/// Writes what the queue holds.
+fn write_rest(
+    alloc: Global,
+    text: &mut Text,
+    queue_name: &Bytes,
+    queue: &PlainQueue,
+    name: &Bytes,
+) -> Result<(), NoMemory>
+    ensures { OnOk result (Adds (written_of text.old) (written_of text.new) (queue_lines (name.now ∷ []) queue_name.now (rest_of queue.now))) }
 {
-    let mut queue = PlainQueue::make(alloc);
-    let mut text = String::new(alloc);
-    let mut number = 2;
-    'running: while let Some(line) = lines.pop_front() {
-        run_line(&mut queue, &mut text, number, line)?;
-        number += 1;
-    }
-    match write_queue(&mut text, &queue) {
-        Ok(()) => Ok(text),
+    let rest = rest_of(alloc, queue)?;
+    match write_queue(text, queue_name, &rest, slice::from_ref(name)) {
+        Ok(()) => Ok(()),
         Err(_) => Err(NoMemory),
+    }
+}
+
+/// Runs the lines of the one actor in order over an empty queue, and gives the text of the run.
+pub(crate) fn run(
+    alloc: Global,
+    queue_name: &Bytes,
+    name: &Bytes,
+    ops: Vec<Op>,
+) -> Result<Vec<u8>, NoMemory>
+    requires served { list_all (λ op. is_served op.what) ops.items ≡ true }
+    requires room { puts_in ops.items ≤ most_entries }
+    ensures text { IfOk result (λ text. text.items ≡ run_text queue_name.now name.now ops.items) }
+    ensures legal { OnOk result (Legal (empty 1 0) (history start ops.items)) }
+{
+    let mut running = Running::start(alloc);
+    let mut text = Text::new(alloc);
+    let mut ops = VecDeque::from(ops);
+    'running: while let Some(op) = ops.pop_front() {
+        run_line(alloc, &mut running, &mut text, name, op)?;
+    }
+    write_rest(alloc, &mut text, queue_name, &running.queue, name)?;
+    match text.whole() {
+        Some(bytes) => Ok(bytes),
+        None => Err(NoMemory),
     }
 }

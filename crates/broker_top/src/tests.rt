@@ -1,23 +1,163 @@
-use crate::input::{Input, read_input};
-use crate::run::run;
-use crate::script::read_script;
-use crate::{INPUT_LIMIT, Status, run_command};
+use crate::{INPUT_LIMIT, InputFault, Status, run_command};
 use acts_core::Bytes;
 use outside_io::{MemorySink, MemorySource};
 use std::alloc::{AllocError, Global};
 use std::process::Abort;
 use std::test::Fail;
 
-const DEFINITIONS: &str =
+const Q: &str =
     "{\"queues\":[{\"name\":\"q\",\"type\":\"standard\",\"consumers\":[{\"name\":\"c\",\"actor\":\"a\"}]}]}\n";
 
 const PUT_7: &str = "{\"do\":\"put\",\"actor\":\"a\",\"queue\":\"q\",\"id\":7,\"body\":\"hi\"}\n";
 
 const PUT_8: &str = "{\"do\":\"put\",\"actor\":\"a\",\"queue\":\"q\",\"id\":8,\"body\":\"\"}\n";
 
+const BARE_7: &str = "{\"do\":\"put\",\"actor\":\"a\",\"queue\":\"q\",\"id\":7}\n";
+
 const TAKE: &str = "{\"do\":\"take\",\"actor\":\"a\",\"consumer\":\"c\"}\n";
 
 const ACK_7: &str = "{\"do\":\"ack\",\"actor\":\"a\",\"queue\":\"q\",\"id\":7}";
+
+const RELEASE_7: &str = "{\"do\":\"release\",\"actor\":\"a\",\"queue\":\"q\",\"id\":7}\n";
+
+const ACK: &str = "{\"do\":\"ack\",\"actor\":\"a\",\"queue\":\"q\"}\n";
+
+const RELEASE: &str = "{\"do\":\"release\",\"actor\":\"a\",\"queue\":\"q\"}\n";
+
+const REST: &str = "{\"do\":\"rest\"}\n";
+
+// Texts one after the other, and what a run of them ends with.
+const RUNS: &[(&[&str], Status, &str)] = &[
+    (&[Q], Status::Done, "queue q 0 0\n"),
+    (
+        &[Q, PUT_7, TAKE, ACK_7],
+        Status::Done,
+        "a 2 ok 7\na 3 got 7 1\na 4 acked 7\nqueue q 0 0\n",
+    ),
+    (
+        &[Q, PUT_7, TAKE, TAKE],
+        Status::Done,
+        "a 2 ok 7\na 3 got 7 1\na 4 empty\nqueue q 1 18\nentry 7 held a\n",
+    ),
+    (
+        &[Q, BARE_7, TAKE, RELEASE_7, TAKE],
+        Status::Done,
+        "a 2 ok 7\na 3 got 7 1\na 4 released 7\na 5 got 7 2\nqueue q 1 16\nentry 7 held a\n",
+    ),
+    // Without an id the last message is meant that is held.
+    (
+        &[Q, PUT_7, PUT_8, TAKE, TAKE, RELEASE, ACK, ACK, TAKE],
+        Status::Done,
+        "a 2 ok 7\na 3 ok 8\na 4 got 7 1\na 5 got 8 1\na 6 released 8\na 7 acked 7\na 8 not-held\na 9 got 8 2\nqueue q 1 16\nentry 8 held a\n",
+    ),
+    (
+        &[Q, PUT_7, ACK_7],
+        Status::Done,
+        "a 2 ok 7\na 3 not-held\nqueue q 1 18\nentry 7\n",
+    ),
+    // Blank lines are counted.
+    (
+        &["\n", " \t\r\n", Q, "\n", TAKE, " "],
+        Status::Done,
+        "a 5 empty\nqueue q 0 0\n",
+    ),
+    // Limits are not looked at under the policy NONE, and consumers of other actors may be defined.
+    (
+        &[
+            "{\"queues\":[{\"name\":\"q\",\"maximumQueueDepthMessages\":1,\"consumers\":[{\"name\":\"d\",\"actor\":\"b\"}]}]}\n",
+            PUT_7,
+            PUT_8,
+        ],
+        Status::Done,
+        "a 2 ok 7\na 3 ok 8\nqueue q 2 34\nentry 7\nentry 8\n",
+    ),
+    (&[], Status::InputRefused, "fault: line 1: NotJson\n"),
+    (&["\n\n"], Status::InputRefused, "fault: line 1: NotJson\n"),
+    (
+        &["\n{}"],
+        Status::InputRefused,
+        "fault: line 2: MissingField\n",
+    ),
+    (
+        &[Q, "{\"do\":\"take\",\"actor\":\"b\",\"consumer\":\"c\"}"],
+        Status::InputRefused,
+        "fault: line 2: UnknownConsumer\n",
+    ),
+    (
+        &[Q, PUT_7, PUT_7],
+        Status::InputRefused,
+        "fault: line 3: DoubleId\n",
+    ),
+    (
+        &[
+            Q,
+            "{\"do\":\"put\",\"actor\":\"a\",\"queue\":\"q\",\"id\":7,\"headers\":{\"price\":1.5}}",
+        ],
+        Status::InputRefused,
+        "fault: line 2: FloatNumber\n",
+    ),
+    (
+        &[
+            Q,
+            "{\"do\":\"put\",\"actor\":\"a\",\"queue\":\"q\",\"id\":7,\"persistent\":true}",
+        ],
+        Status::InputRefused,
+        "fault: line 2: NoJournal\n",
+    ),
+    // What isn't built is told of last.
+    (
+        &[
+            "\n{\"queues\":[{\"name\":\"q\",\"type\":\"priority\"}]}\n",
+            BARE_7,
+        ],
+        Status::InputRefused,
+        "fault: line 2: NotBuilt\n",
+    ),
+    (
+        &[
+            "{\"queues\":[{\"name\":\"q\",\"type\":\"priority\"}]}\n",
+            BARE_7,
+            "[]",
+        ],
+        Status::InputRefused,
+        "fault: line 3: BadValue\n",
+    ),
+    (
+        &["{\"queues\":[{\"name\":\"q\",\"overflowPolicy\":\"RING\"}]}\n"],
+        Status::InputRefused,
+        "fault: line 1: NotBuilt\n",
+    ),
+    (
+        &["{\"queues\":[{\"name\":\"q\"},{\"name\":\"r\"}]}\n"],
+        Status::InputRefused,
+        "fault: line 1: NotBuilt\n",
+    ),
+    (
+        &[Q, TAKE, "\n", REST],
+        Status::InputRefused,
+        "fault: line 4: NotBuilt\n",
+    ),
+    (
+        &[
+            Q,
+            TAKE,
+            "{\"do\":\"lock\",\"actor\":\"a\",\"queue\":\"q\"}\n",
+            REST,
+        ],
+        Status::InputRefused,
+        "fault: line 3: NotBuilt\n",
+    ),
+    (
+        &[
+            Q,
+            TAKE,
+            "{\"do\":\"ack\",\"actor\":\"b\",\"queue\":\"q\"}\n",
+            REST,
+        ],
+        Status::InputRefused,
+        "fault: line 3: NotBuilt\n",
+    ),
+];
 
 // The texts one after the other.
 fn joined(alloc: Global, parts: &[&str]) -> Result<Vec<u8>, AllocError> {
@@ -31,6 +171,33 @@ fn joined(alloc: Global, parts: &[&str]) -> Result<Vec<u8>, AllocError> {
 // So many times the byte.
 fn filled(alloc: Global, byte: u8, count: usize) -> Result<Vec<u8>, AllocError> {
     vec![in alloc; byte; count]
+}
+
+// The definitions, and puts of so many ids.
+fn puts(alloc: Global, count: u64) -> Result<Vec<u8>, AllocError> {
+    let mut bytes = joined(alloc, &[Q])?;
+    for id in 0..count {
+        let line = format!(in alloc;
+            "{{\"do\":\"put\",\"actor\":\"a\",\"queue\":\"q\",\"id\":{id}}}\n"
+        )?;
+        bytes.extend_from_slice(line.as_bytes())?;
+    }
+    Ok(bytes)
+}
+
+// The definitions, and a put whose body has so many bytes.
+fn put_of(alloc: Global, count: usize) -> Result<Vec<u8>, AllocError> {
+    let mut bytes = joined(
+        alloc,
+        &[
+            Q,
+            "{\"do\":\"put\",\"actor\":\"a\",\"queue\":\"q\",\"id\":7,\"body\":\"",
+        ],
+    )?;
+    let body = filled(alloc, b'x', count)?;
+    bytes.extend_from_slice(&body)?;
+    bytes.extend_from_slice(b"\"}\n")?;
+    Ok(bytes)
 }
 
 // Runs the words over the input, with calls that fail and room for the output; compares the end.
@@ -58,149 +225,113 @@ fn check(
 }
 
 #[test]
-fn scripts_and_their_texts(rt: HostRuntime) -> Result<(), Fail> {
-    let cases: [(&[&str], Status, &str); 12] = [
-        (&[DEFINITIONS], Status::Done, "queue q 0 0\n"),
-        (
-            &[DEFINITIONS, PUT_7, TAKE, ACK_7, "\n"],
-            Status::Done,
-            "a 2 ok 7\na 3 got 7 1\na 4 acked 7\nqueue q 0 0\n",
-        ),
-        (
-            &[DEFINITIONS, PUT_7, TAKE, ACK_7],
-            Status::Done,
-            "a 2 ok 7\na 3 got 7 1\na 4 acked 7\nqueue q 0 0\n",
-        ),
-        (
-            &[DEFINITIONS, PUT_7, TAKE, TAKE],
-            Status::Done,
-            "a 2 ok 7\na 3 got 7 1\na 4 empty\nqueue q 1 18\nentry 7 held a\n",
-        ),
-        (
-            &[DEFINITIONS, PUT_7, PUT_8, TAKE],
-            Status::Done,
-            "a 2 ok 7\na 3 ok 8\na 4 got 7 1\nqueue q 2 34\nentry 7 held a\nentry 8\n",
-        ),
-        (
-            &[DEFINITIONS, PUT_7, ACK_7],
-            Status::Done,
-            "a 2 ok 7\na 3 not-held\nqueue q 1 18\nentry 7\n",
-        ),
-        (&[], Status::InputRefused, "fault: line 1: NotBuilt\n"),
-        (
-            &["\n", DEFINITIONS],
-            Status::InputRefused,
-            "fault: line 1: NotBuilt\n",
-        ),
-        (
-            &[DEFINITIONS, "\n"],
-            Status::InputRefused,
-            "fault: line 2: NotBuilt\n",
-        ),
-        (
-            &[DEFINITIONS, PUT_7, TAKE, PUT_7],
-            Status::InputRefused,
-            "fault: line 4: NotBuilt\n",
-        ),
-        (
-            &[DEFINITIONS, TAKE, " ", TAKE],
-            Status::InputRefused,
-            "fault: line 3: NotBuilt\n",
-        ),
-        (
-            &[DEFINITIONS, DEFINITIONS],
-            Status::InputRefused,
-            "fault: line 2: NotBuilt\n",
-        ),
-    ];
-    for (parts, status, text) in cases {
+fn runs_and_their_texts(rt: HostRuntime) -> Result<(), Fail> {
+    for &(parts, status, text) in RUNS {
         let input = joined(rt.alloc(), parts)?;
         check(&rt, &["run"], input, (&[], &[]), 1000, (status, text))?;
     }
     Ok(())
 }
 
+// Words; reads and writes that fail; room for the output; and what a run ends with.
+const FAULTS: &[(&[&str], &[u64], &[u64], u64, Status, &str)] = &[
+    (
+        &["run", "a", "b"],
+        &[],
+        &[],
+        1000,
+        Status::WordsRefused,
+        "fault: words\n",
+    ),
+    (&[], &[], &[], 1000, Status::WordsRefused, "fault: words\n"),
+    (
+        &["Run"],
+        &[],
+        &[],
+        1000,
+        Status::WordsRefused,
+        "fault: words\n",
+    ),
+    (
+        &["run", ""],
+        &[],
+        &[],
+        1000,
+        Status::WordsRefused,
+        "fault: words\n",
+    ),
+    (
+        &["run"],
+        &[0],
+        &[],
+        1000,
+        Status::ReadFault,
+        "fault: read\n",
+    ),
+    (
+        &["run"],
+        &[1],
+        &[],
+        1000,
+        Status::ReadFault,
+        "fault: read\n",
+    ),
+    (&["run"], &[], &[0], 1000, Status::WriteFault, ""),
+    (&["run"], &[], &[], 10, Status::WriteFault, "a 2 ok 7\na"),
+    (&["no"], &[], &[0], 1000, Status::WriteFault, ""),
+];
+
 #[test]
 fn refusals_and_faults(rt: HostRuntime) -> Result<(), Fail> {
-    let alloc = rt.alloc();
-    let words: [&[&str]; 4] = [&["run", "a", "b"], &[], &["Run"], &["run", ""]];
-    for refused in words {
-        let input = joined(alloc, &[DEFINITIONS])?;
-        let want = (Status::WordsRefused, "fault: words\n");
-        check(&rt, refused, input, (&[], &[]), 1000, want)?;
+    for &(words, reads, writes, room, status, text) in FAULTS {
+        let input = joined(rt.alloc(), &[Q, PUT_7, TAKE, ACK_7])?;
+        check(&rt, words, input, (reads, writes), room, (status, text))?;
     }
+    Ok(())
+}
 
-    // A read that fails, a write that fails at once, and one that fails after ten bytes.
-    let input = joined(alloc, &[DEFINITIONS, PUT_7, TAKE, ACK_7])?;
-    check(
-        &rt,
-        &["run"],
-        input,
-        (&[0], &[]),
-        1000,
-        (Status::ReadFault, "fault: read\n"),
-    )?;
-    let input = joined(alloc, &[DEFINITIONS, PUT_7, TAKE, ACK_7])?;
-    check(
-        &rt,
-        &["run"],
-        input,
-        (&[1], &[]),
-        1000,
-        (Status::ReadFault, "fault: read\n"),
-    )?;
-    let input = joined(alloc, &[DEFINITIONS, PUT_7, TAKE, ACK_7])?;
-    check(
-        &rt,
-        &["run"],
-        input,
-        (&[], &[0]),
-        1000,
-        (Status::WriteFault, ""),
-    )?;
-    let input = joined(alloc, &[DEFINITIONS, PUT_7, TAKE, ACK_7])?;
-    check(
-        &rt,
-        &["run"],
-        input,
-        (&[], &[]),
-        10,
-        (Status::WriteFault, "a 2 ok 7\na"),
-    )?;
-    let input = joined(alloc, &[DEFINITIONS])?;
-    check(
-        &rt,
-        &["no"],
-        input,
-        (&[], &[0]),
-        1000,
-        (Status::WriteFault, ""),
-    )?;
+#[test]
+fn greatest_inputs(rt: HostRuntime) -> Result<(), Fail> {
+    let alloc = rt.alloc();
 
     // The greatest input, and one byte more.
     let input = filled(alloc, b'x', INPUT_LIMIT)?;
-    let want = (Status::InputRefused, "fault: line 1: NotBuilt\n");
+    let want = (Status::InputRefused, "fault: line 1: LineTooLong\n");
     check(&rt, &["run"], input, (&[], &[]), 1000, want)?;
     let input = filled(alloc, b'x', INPUT_LIMIT + 1)?;
     let want = (Status::InputRefused, "fault: input too large\n");
-    check(&rt, &["run"], input, (&[], &[]), 1000, want)
+    check(&rt, &["run"], input, (&[], &[]), 1000, want)?;
+
+    // The longest line, and one byte more.
+    let want = (Status::Done, "a 2 ok 7\nqueue q 1 1048539\nentry 7\n");
+    check(
+        &rt,
+        &["run"],
+        put_of(alloc, 1_048_523)?,
+        (&[], &[]),
+        1000,
+        want,
+    )?;
+    let want = (Status::InputRefused, "fault: line 2: LineTooLong\n");
+    check(
+        &rt,
+        &["run"],
+        put_of(alloc, 1_048_524)?,
+        (&[], &[]),
+        1000,
+        want,
+    )?;
+
+    // One put too many.
+    let want = (Status::InputRefused, "fault: line 524290: TooManyEntries\n");
+    check(&rt, &["run"], puts(alloc, 524_289)?, (&[], &[]), 1000, want)
 }
 
 #[test]
 fn ample(rt: HostRuntime) -> Result<(), Fail> {
-    let alloc = rt.alloc();
-    let input = joined(alloc, &[DEFINITIONS, PUT_7, TAKE])?;
-    let mut source = MemorySource::of(Bytes::from_vec(input), Vec::new(alloc));
-    let Input::Whole(bytes) = read_input(alloc, &mut source, 1000) else {
-        return Err(Fail::new("the input was not read"));
-    };
-    assert_eq!(rt; bytes.len(), 180);
-    let Ok(lines) = read_script(alloc, &bytes) else {
-        return Err(Fail::new("the script was not read"));
-    };
-    assert_eq!(rt; lines.len(), 2);
-    let text = run(alloc, lines)?;
-    let want = "a 2 ok 7\na 3 got 7 1\nqueue q 1 18\nentry 7 held a\n";
-    assert_eq!(rt; text.as_str(), want);
+    let fault = InputFault::NotBuilt { line: 3 };
+    assert_eq!(rt; fault.line(), 3);
+    assert_eq!(rt; fault.cause(), "NotBuilt");
+    assert_eq!(rt; Status::NoMemory.code(), 6);
     Ok(())
 }

@@ -1,10 +1,12 @@
 //! The top call.
-ghost use Rattle.std.specs.Prelude.{◌≡◌, ◌↔◌, IsTrue, map, string_bytes};
-ghost use Rattle.broker_top.specs.Ends.{Ends, IsRun, Tells};
+ghost use Rattle.std.specs.Prelude.{◌≡◌, ◌↔◌, IsTrue, IfOk, map, string_bytes};
+ghost use Rattle.broker_top.specs.Ends.{Ends, IsRun, Refuses, Tells};
+ghost use Rattle.broker_top.specs.Faults.{fault_text};
 
+use crate::faults::InputFault;
 use crate::input::{Input, read_input};
+use crate::job::{Job, read_job};
 use crate::run::run;
-use crate::script::{InputFault, read_script};
 use crate::status::Status;
 use acts_core::NoMemory;
 use outside_io::{Sink, Source, write_all};
@@ -33,6 +35,31 @@ fn tell<K: Sink>(out: &mut K, status: Status, text: &[u8]) -> Status
     }
 }
 
+/// Makes the text of a fault: the line, and the name of its cause.
+fn fault_text(alloc: Global, fault: InputFault) -> Result<String, NoMemory>
+    ensures { IfOk result (λ text. string_bytes text ≡ fault_text fault) }
+{
+    let line = fault.line();
+    let cause = fault.cause();
+    match format!(in alloc; "fault: line {line}: {cause}\n") {
+        Ok(text) => Ok(text),
+        Err(_) => Err(NoMemory),
+    }
+}
+
+/// Tells of the fault for which the input is refused.
+fn refuse<K: Sink>(alloc: Global, out: &mut K, fault: InputFault) -> Status
+    ensures { Refuses fault result (K.written out.old) (K.written out.new) (K.faults out.old) (K.faults out.new) }
+{
+    if matches!(fault, InputFault::NoMemory) {
+        return tell(out, Status::NoMemory, b"fault: memory\n");
+    }
+    match fault_text(alloc, fault) {
+        Ok(text) => tell(out, Status::InputRefused, text.as_bytes()),
+        Err(NoMemory) => tell(out, Status::NoMemory, b"fault: memory\n"),
+    }
+}
+
 /// Does all that the program does for these words of its command line: it reads the whole input, tests
 /// every line, runs the lines, and writes the text of the run, or a fault line.
 ///
@@ -56,18 +83,13 @@ pub fn run_command<S: Source, K: Sink>(
         Input::Fault => return tell(out, Status::ReadFault, b"fault: read\n"),
         Input::NoMemory => return tell(out, Status::NoMemory, b"fault: memory\n"),
     };
-    let lines = match read_script(alloc, &bytes) {
-        Ok(lines) => lines,
-        Err(InputFault::NotBuilt { line }) => {
-            let Ok(text) = format!(in alloc; "fault: line {line}: NotBuilt\n") else {
-                return tell(out, Status::NoMemory, b"fault: memory\n");
-            };
-            return tell(out, Status::InputRefused, text.as_bytes());
-        }
-        Err(InputFault::NoMemory) => return tell(out, Status::NoMemory, b"fault: memory\n"),
+    let Job { queue, actor, ops } = match read_job(alloc, &bytes) {
+        Ok(job) => job,
+        Err(fault) => return refuse(alloc, out, fault),
     };
-    match run(alloc, lines) {
-        Ok(text) => tell(out, Status::Done, text.as_bytes()),
+    drop(bytes);
+    match run(alloc, &queue, &actor, ops) {
+        Ok(text) => tell(out, Status::Done, &text),
         Err(NoMemory) => tell(out, Status::NoMemory, b"fault: memory\n"),
     }
 }

@@ -1,0 +1,5 @@
+pub mod Lists
+pub mod ConsumerLoop
+pub mod QueueLoop
+pub mod QueueCauses
+pub mod Few

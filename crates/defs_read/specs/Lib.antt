@@ -1,0 +1,6 @@
+pub mod Defined
+pub mod Tables
+pub mod Causes
+pub mod Values
+pub mod Reading
+pub mod Steps

@@ -1,0 +1,23 @@
+//! The definitions of queues and of their consumers: the first line of a script.
+//!
+//! docs/SCRIPT.md, "Definitions", has every field with its default, its limits and its causes.
+#![tactic(auto)]
+
+mod consumers;
+mod defs;
+mod faults;
+mod names;
+mod queues;
+mod reading;
+mod tables;
+mod values;
+
+pub use defs::{ConsumerDef, Defs, QueueDef, QueueKind};
+pub use faults::DefsFault;
+pub use reading::read_defs;
+
+/// The greatest number of bytes of a line, without its line feed.
+pub const LONGEST_LINE: usize = 1_048_576;
+
+#[cfg(test)]
+mod tests;

@@ -1,0 +1,4 @@
+pub mod Json
+pub mod Forms
+pub mod Fields
+pub mod Faults

@@ -1,0 +1,11 @@
+pub mod LineFeeds
+pub mod Phases
+pub mod Actors
+pub mod Puts
+pub mod FirstCauses
+pub mod Tracked
+pub mod Steps
+pub mod Names
+pub mod Contents
+pub mod Firsts
+pub mod Says

@@ -1,0 +1,10 @@
+pub mod Lines
+pub mod Tables
+pub mod Messages
+pub mod Causes
+pub mod Values
+pub mod Reading
+pub mod Parts
+pub mod Phases
+pub mod Scripts
+pub mod SoFar

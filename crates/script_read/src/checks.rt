@@ -1,0 +1,143 @@
+//! Tests a line's value, up to the causes that its message may have.
+ghost use Rattle.std.specs.Prelude.{◌≡◌, ◌≤◌, ◌&&◌, length, option_map};
+ghost use Rattle.std.specs.List.{find};
+ghost use Rattle.std.specs.Str.{bytes_eq};
+ghost use Rattle.serde_json.specs.View.{view};
+ghost use Rattle.fields_read.specs.Faults.{passes_unless};
+ghost use Rattle.defs_read.specs.Defined.{queues_in};
+ghost use Rattle.script_read.specs.Causes.{consumer_named, queue_named};
+ghost use Rattle.script_read.specs.Parts.{early_fault, early_message_fault, fields_fault, names_no_consumer, names_no_queue, text_or_none, verb_said};
+
+use crate::faults::LineFault;
+use crate::tables::{MESSAGE, MESSAGE_REQUIRED, Verb};
+use defs_read::{ConsumerDef, Defs};
+use fields_read::{Field, check_presence, check_values, text};
+use serde_json::Value;
+
+/// The bytes of the field's text; none where it is missing or no text.
+pub(crate) fn text_bytes(value: &Value, field: Field) -> &[u8]
+    ensures { result.now ≡ text_or_none field (view value.now) }
+{
+    match text(value, field) {
+        Some(text) => text.as_bytes(),
+        None => &[],
+    }
+}
+
+/// What the line does. BadValue where the value is no object, MissingField where `do` is missing, and BadValue where
+/// `do` says nothing that a line may do.
+pub(crate) fn verb_of(value: &Value) -> Result<Verb, LineFault>
+    ensures { result ≡ verb_said (view value.now) }
+{
+    if !value.is_object() {
+        return Err(LineFault::BadValue);
+    }
+    if value.get(Field::Do.name()).is_none() {
+        return Err(LineFault::MissingField);
+    }
+    match text(value, Field::Do).and_then(Verb::named) {
+        Some(verb) => Ok(verb),
+        None => Err(LineFault::BadValue),
+    }
+}
+
+/// The number of the queue that the line names.
+pub(crate) fn queue_named(value: &Value, defs: &Defs) -> Option<u32>
+    requires few { length (queues_in defs.now) ≤ 16 }
+    ensures { result ≡ queue_named (queues_in defs.now) (view value.now) }
+{
+    let name = text_bytes(value, Field::Queue);
+    match defs
+        .queues
+        .iter()
+        .position(|queue| queue.name.as_slice() == name)
+    {
+        Some(at) => Some(at as u32),
+        None => None,
+    }
+}
+
+/// The number of the consumer of this name and actor among these.
+fn consumer_among(consumers: &[ConsumerDef], name: &[u8], actor: &[u8]) -> Option<u32>
+    ensures { result ≡ option_map (λ c. c.number) (find (λ c. bytes_eq c.name name.now && bytes_eq c.actor actor.now) consumers.now) }
+{
+    for consumer in consumers {
+        if consumer.name.as_slice() == name && consumer.actor.as_slice() == actor {
+            return Some(consumer.number);
+        }
+    }
+    None
+}
+
+/// The number of the consumer that the line names, where it is one of the line's actor.
+pub(crate) fn consumer_named(value: &Value, defs: &Defs) -> Option<u32>
+    ensures { result ≡ consumer_named (queues_in defs.now) (view value.now) }
+{
+    let name = text_bytes(value, Field::Consumer);
+    let actor = text_bytes(value, Field::Actor);
+    for queue in &defs.queues {
+        if let Some(number) = consumer_among(&queue.consumers, name, actor) {
+            return Some(number);
+        }
+    }
+    None
+}
+
+/// Whether the line names a queue that is not defined.
+#[tactic(auto, unfolding(crate::specs::Parts::names_no_queue))]
+fn names_no_queue(value: &Value, defs: &Defs) -> bool
+    requires few { length (queues_in defs.now) ≤ 16 }
+    ensures { result ≡ names_no_queue (queues_in defs.now) (view value.now) }
+{
+    value.get(Field::Queue.name()).is_some() && queue_named(value, defs).is_none()
+}
+
+/// Whether the line names a consumer that its actor does not have.
+#[tactic(auto, unfolding(crate::specs::Parts::names_no_consumer))]
+fn names_no_consumer(value: &Value, defs: &Defs) -> bool
+    ensures { result ≡ names_no_consumer (queues_in defs.now) (view value.now) }
+{
+    value.get(Field::Consumer.name()).is_some() && consumer_named(value, defs).is_none()
+}
+
+/// Tests that the object has only known fields and all that must stand, and then the values of fields: UnknownField,
+/// MissingField, and for the first field that may not have its value FloatNumber or BadValue.
+#[tactic(auto, unfolding(crate::specs::Parts::fields_fault))]
+fn check_fields(
+    value: &Value,
+    known: &[Field],
+    required: &[Field],
+    valued: &[Field],
+) -> Result<(), LineFault>
+    ensures { result ≡ passes_unless (fields_fault known.now required.now valued.now (view value.now)) }
+{
+    check_presence(value, known, required)?;
+    check_values(value, valued)?;
+    Ok(())
+}
+
+/// Tests a line that does this: its fields, their values, and the queue and the consumer that it names.
+pub(crate) fn check_line(value: &Value, verb: Verb, defs: &Defs) -> Result<(), LineFault>
+    requires few { length (queues_in defs.now) ≤ 16 }
+    ensures { result ≡ passes_unless (early_fault (queues_in defs.now) (view value.now) verb) }
+{
+    let fields = verb.fields();
+    check_fields(value, fields, verb.required(), &fields[1..])?;
+    if names_no_queue(value, defs) {
+        return Err(LineFault::UnknownQueue);
+    }
+    if names_no_consumer(value, defs) {
+        return Err(LineFault::UnknownConsumer);
+    }
+    Ok(())
+}
+
+/// Tests the line of a message that stands by itself: that it is an object, its fields and their values.
+pub(crate) fn check_message(value: &Value) -> Result<(), LineFault>
+    ensures { result ≡ passes_unless (early_message_fault (view value.now)) }
+{
+    if !value.is_object() {
+        return Err(LineFault::BadValue);
+    }
+    check_fields(value, &MESSAGE, &MESSAGE_REQUIRED, &MESSAGE)
+}
