@@ -186,22 +186,25 @@ pub(crate) fn can_give(reserved: &[Reservation], holder: u64, size: u64) -> bool
     ensures { IsTrue result ↔ CanGive (unwrap_or (find (is_holder holder) reserved.now) (nothing holder)) size }
 {
     match holder_index(reserved, holder) {
-        Some(index) => gives(&reserved[index], size),
+        Some(index) => reserved[index].can_give(size),
         None => false,
     }
 }
 
-/// Whether one entry of this size can be taken out of a reservation.
-fn gives(held: &Reservation, size: u64) -> bool
-    ensures { IsTrue result ↔ CanGive held.now size }
-{
-    held.entries > 0
-        && size <= held.bytes
-        && held.bytes - size <= MOST_BYTES.saturating_mul(held.entries - 1)
+impl Reservation {
+    /// Whether one entry of this size, in bytes, can be taken out: there is one, and for what is left at most
+    /// 1,048,576 bytes an entry.
+    pub fn can_give(self, size: u64) -> bool
+        ensures { IsTrue result ↔ CanGive self size }
+    {
+        self.entries > 0
+            && size <= self.bytes
+            && self.bytes - size <= MOST_BYTES.saturating_mul(self.entries - 1)
+    }
 }
 
 /// Whether a mask has no bit past so many consumers.
-pub(crate) fn fits_mask(mask: u64, consumers: u32) -> bool
+pub fn fits_mask(mask: u64, consumers: u32) -> bool
     ensures { IsTrue result ↔ (mask < 2 ^ consumers) }
 {
     consumers >= 64 || mask >> consumers == 0

@@ -16,6 +16,7 @@ pub mod steps;
 pub use byte_lists::{Buffer, Bytes, NoMemory, Origin};
 pub use cargoes::{Cargo, Locking, Next, Placed, Releasing, Stealing};
 pub use deeds::{Act, Deed, Unapplied};
+pub use field_lists::fits_mask;
 pub use limits::{MOST_BYTES, MOST_ENTRIES};
 pub use queues::{Bell, Depth, Limits, Policy, Queue, Reservation};
 pub use rows::{Row, RowState, Slip};

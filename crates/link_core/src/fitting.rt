@@ -1,7 +1,6 @@
 //! Whether a step fits the words.
 ghost use Rattle.std.specs.Prelude.{◌≡◌, ◌/◌, ◌<◌, ◌≤◌, ◌^◌, ◌↔◌, ℕ, IsTrue, length, slice_index};
-ghost use Rattle.acts_core.specs.declared.queues.Reservation.{Reservation};
-ghost use Rattle.acts_core.specs.Table.{CanGive, most_entries};
+ghost use Rattle.acts_core.specs.Table.{most_entries};
 ghost use Rattle.link_core.specs.Kept.{IsKept, table_in};
 ghost use Rattle.link_core.specs.Layout.{draft_of, entry_worth};
 ghost use Rattle.link_core.specs.Steps.{Fits, FitsHelp, FitsHelpTo, FitsBehind, FitsLink, FitsState, GoesFrom, HasWord, IsBehind, IsDrawnBy, IsPackable, place_behind, place_in};
@@ -10,24 +9,8 @@ ghost use Rattle.link_core.specs.Table.{IsLinked, IsNode, list_of_node};
 use crate::places::{ENTRY_WORTH, draft_place};
 use crate::store::Store;
 use acts_core::{
-    Change, DraftWord, MOST_BYTES, MOST_ENTRIES, Node, Reservation, RowState, Step, WordName,
+    Change, DraftWord, MOST_BYTES, MOST_ENTRIES, Node, RowState, Step, WordName, fits_mask,
 };
-
-/// Whether one entry of this size can be taken out of a reservation.
-fn gives(held: Reservation, size: u64) -> bool
-    ensures { IsTrue result ↔ CanGive held size }
-{
-    held.entries > 0
-        && size <= held.bytes
-        && held.bytes - size <= MOST_BYTES.saturating_mul(held.entries - 1)
-}
-
-/// Whether a mask has no bit past so many consumers.
-fn fits_mask(mask: u64, consumers: u32) -> bool
-    ensures { IsTrue result ↔ (mask < 2 ^ consumers) }
-{
-    consumers >= 64 || mask >> consumers == 0
-}
 
 /// Whether a change goes on from this state, for this caller.
 fn goes_from(caller: u64, change: Change, from: RowState) -> bool
@@ -171,7 +154,7 @@ impl Store {
             && self.is_next(after, self.draft(row, DraftWord::Place))
             && fits_mask(self.draft(row, DraftWord::Mask), self.consumers)
             && size <= MOST_BYTES
-            && gives(self.reserved(caller), size)
+            && self.reserved(caller).can_give(size)
     }
 
     /// Whether a tail may move from one node of its list to a later row.
@@ -219,7 +202,7 @@ impl Store {
                 self.is_linked(row) && goes_from(caller, change, from) && is_packable(from)
             }
             Step::Reserve { size } => size <= MOST_BYTES && self.has_room(),
-            Step::GiveBack { size } => gives(self.reserved(caller), size),
+            Step::GiveBack { size } => self.reserved(caller).can_give(size),
         }
     }
 }

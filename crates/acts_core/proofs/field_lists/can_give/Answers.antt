@@ -9,7 +9,7 @@ use Rattle.acts_core.proofs.field_lists.can_give.Goals as goal
 pub returns-in-Some : goal.returns-in-Some
 returns-in-Some c =
     let found = found_is_at (is_holder c.args.holder) c.args.reserved.now _ c.in-Some.index (record { holder = 0; entries = 0; bytes = 0 }) c.holder_index.ensures c.in-Some.is in
-    subst (λ (v : Reservation). IsTrue c.gives.result ↔ CanGive v c.args.size) (sym (ap (λ o. unwrap_or o (nothing c.args.holder)) found)) c.gives.ensures
+    subst (λ (v : Reservation). IsTrue c.can_give.result ↔ CanGive v c.args.size) (sym (ap (λ o. unwrap_or o (nothing c.args.holder)) found)) c.can_give.ensures
 
 pub returns-in-None : goal.returns-in-None
 returns-in-None c =

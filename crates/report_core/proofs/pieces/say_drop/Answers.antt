@@ -1,6 +1,6 @@
 use Rattle.std.proofs.Common.{◌++◌, codes}
 use Rattle.std.specs.Fmt.{decimal}
-use Rattle.report_core.proofs.Saying.{then_third, cut_third}
+use Rattle.outside_io.proofs.Saying.{then_third, cut_third}
 use Rattle.report_core.specs.Names.{name_at}
 use Rattle.report_core.specs.Words.{fate_text}
 use Rattle.report_core.proofs.pieces.say_drop.Goals as goal

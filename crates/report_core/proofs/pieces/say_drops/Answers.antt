@@ -1,5 +1,5 @@
 use Rattle.report_core.specs.Words.{drop_text}
-use Rattle.report_core.proofs.Saying.{cut_all}
+use Rattle.outside_io.proofs.Saying.{cut_all}
 use Rattle.report_core.proofs.pieces.say_drops.Goals as goal
 
 pub returns-in_err-say_drop : goal.returns-in_err-say_drop

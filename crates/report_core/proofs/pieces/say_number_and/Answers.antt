@@ -1,5 +1,5 @@
 use Rattle.std.specs.Fmt.{decimal}
-use Rattle.report_core.proofs.Saying.{then_third, cut_third}
+use Rattle.outside_io.proofs.Saying.{then_third, cut_third}
 use Rattle.report_core.specs.Words.{said_if}
 use Rattle.report_core.proofs.pieces.say_number_and.Goals as goal
 

@@ -1,6 +1,6 @@
 use Rattle.std.proofs.Common.{codes}
 use Rattle.std.specs.Fmt.{decimal}
-use Rattle.report_core.proofs.Saying.{then_fourth, cut_fourth}
+use Rattle.outside_io.proofs.Saying.{then_fourth, cut_fourth}
 use Rattle.report_core.specs.Words.{said_if, span_text}
 use Rattle.report_core.proofs.words.say_accepted.Goals as goal
 

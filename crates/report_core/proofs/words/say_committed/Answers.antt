@@ -1,6 +1,6 @@
 use Rattle.std.proofs.Common.{codes}
 use Rattle.outside_io.proofs.Says.{says_then}
-use Rattle.report_core.proofs.Saying.{cut_second}
+use Rattle.outside_io.proofs.Saying.{cut_second}
 use Rattle.report_core.specs.Words.{span_text}
 use Rattle.report_core.proofs.words.say_committed.Goals as goal
 

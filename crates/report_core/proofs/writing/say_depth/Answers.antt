@@ -1,6 +1,6 @@
 use Rattle.std.proofs.Common.{◌++◌, codes}
 use Rattle.std.specs.Fmt.{decimal}
-use Rattle.report_core.proofs.Saying.{then_third, cut_third}
+use Rattle.outside_io.proofs.Saying.{then_third, cut_third}
 use Rattle.report_core.proofs.writing.say_depth.Goals as goal
 
 pub returns-in_err-say_then_number : goal.returns-in_err-say_then_number

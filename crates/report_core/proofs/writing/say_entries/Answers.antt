@@ -1,5 +1,5 @@
 use Rattle.report_core.specs.Texts.{resting_line}
-use Rattle.report_core.proofs.Saying.{cut_all}
+use Rattle.outside_io.proofs.Saying.{cut_all}
 use Rattle.report_core.proofs.writing.say_entries.Goals as goal
 
 pub returns-in_err-say_resting : goal.returns-in_err-say_resting

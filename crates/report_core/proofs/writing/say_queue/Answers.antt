@@ -1,6 +1,6 @@
 use Rattle.std.proofs.Common.{sym, ◌++◌, codes}
 use Rattle.outside_io.proofs.Says.{says_then}
-use Rattle.report_core.proofs.Saying.{cut_second}
+use Rattle.outside_io.proofs.Saying.{cut_second}
 use Rattle.std.proofs.Common.{length}
 use Rattle.report_core.specs.Texts.{bytes_of, depth_text}
 use Rattle.report_core.proofs.writing.say_queue.Goals as goal

@@ -1,6 +1,6 @@
 use Rattle.std.proofs.Common.{◌++◌, codes}
 use Rattle.outside_io.proofs.Says.{says_then}
-use Rattle.report_core.proofs.Saying.{cut_second}
+use Rattle.outside_io.proofs.Saying.{cut_second}
 use Rattle.report_core.specs.Words.{words}
 use Rattle.report_core.proofs.writing.say_rest.Goals as goal
 

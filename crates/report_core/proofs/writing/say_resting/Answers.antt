@@ -1,7 +1,7 @@
 use Rattle.std.proofs.Common.{◌++◌, codes}
 use Rattle.std.specs.Fmt.{decimal}
 use Rattle.outside_io.proofs.Says.{says_then}
-use Rattle.report_core.proofs.Saying.{cut_second, then_third, cut_third}
+use Rattle.outside_io.proofs.Saying.{cut_second, then_third, cut_third}
 use Rattle.report_core.specs.Texts.{holder_text}
 use Rattle.report_core.proofs.writing.say_resting.Goals as goal
 

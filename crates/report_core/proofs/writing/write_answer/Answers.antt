@@ -1,6 +1,6 @@
 use Rattle.std.proofs.Common.{◌++◌, codes}
 use Rattle.std.specs.Fmt.{decimal}
-use Rattle.report_core.proofs.Saying.{then_fourth, cut_fourth}
+use Rattle.outside_io.proofs.Saying.{then_fourth, cut_fourth}
 use Rattle.report_core.specs.Words.{words}
 use Rattle.report_core.proofs.writing.write_answer.Goals as goal
 

@@ -1,5 +1,5 @@
 use Rattle.outside_io.proofs.Says.{says_then}
-use Rattle.report_core.proofs.Saying.{cut_second}
+use Rattle.outside_io.proofs.Saying.{cut_second}
 use Rattle.std.specs.List.{flat_map}
 use Rattle.report_core.specs.Texts.{queue_line, resting_line}
 use Rattle.report_core.proofs.writing.write_queue.Goals as goal
