@@ -1,0 +1,4 @@
+pub mod PatternTests
+pub mod Places
+pub mod LikeLaw
+pub mod ValueTables

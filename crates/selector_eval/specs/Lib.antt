@@ -1,0 +1,9 @@
+pub mod Values
+pub mod Seen
+pub mod Patterns
+pub mod Reached
+pub mod Comparing
+pub mod Numbers
+pub mod Truths
+pub mod Evaluation
+pub mod Laws

@@ -1,0 +1,41 @@
+-- NOT, AND and OR over three truths, as tables (JMS 1.1, section 3.8.1.2).
+use Rattle.selector_eval.specs.declared.truths.Truth.{Truth}
+use Rattle.selector_eval.specs.declared.truths.Truth.TheVariants.{True, False, Unknown}
+use Rattle.selector_eval.specs.Values.{Value, truth_in, value_in}
+
+abbrev pub truth_not : Truth → Truth
+truth_not True = False
+truth_not False = True
+truth_not Unknown = Unknown
+
+abbrev pub truth_and : Truth → Truth → Truth
+truth_and True True = True
+truth_and True False = False
+truth_and True Unknown = Unknown
+truth_and False True = False
+truth_and False False = False
+truth_and False Unknown = False
+truth_and Unknown True = Unknown
+truth_and Unknown False = False
+truth_and Unknown Unknown = Unknown
+
+abbrev pub truth_or : Truth → Truth → Truth
+truth_or True True = True
+truth_or True False = True
+truth_or True Unknown = True
+truth_or False True = True
+truth_or False False = False
+truth_or False Unknown = Unknown
+truth_or Unknown True = True
+truth_or Unknown False = Unknown
+truth_or Unknown Unknown = Unknown
+
+-- the same of values
+abbrev pub value_not : Value → Value
+value_not v = value_in (truth_not (truth_in v))
+
+abbrev pub value_and : Value → Value → Value
+value_and v w = value_in (truth_and (truth_in v) (truth_in w))
+
+abbrev pub value_or : Value → Value → Value
+value_or v w = value_in (truth_or (truth_in v) (truth_in w))

@@ -1,0 +1,9 @@
+pub mod Trees
+pub mod Codes
+pub mod Grammar
+pub mod Selectors
+pub mod Reading
+pub mod Answers
+pub mod Forms
+pub mod Modes
+pub mod Writing

@@ -1,0 +1,168 @@
+//! Writing a selector as a text.
+ghost use Rattle.std.specs.Prelude.{◌≡◌, ◌≤◌, ◌+◌, ◌++◌, length, IfOk, OnOk};
+ghost use Rattle.selector_read.specs.Reading.{selector_of};
+ghost use Rattle.selector_read.specs.Selectors.{StandsFor, longest_text, reads};
+ghost use Rattle.selector_read.specs.Trees.{tree_of};
+ghost use Rattle.selector_read.specs.Writing.{level_of, level_of_math, text_at};
+
+use crate::writing_pieces::{
+    compare_sign_of, math_sign_of, put_escape, put_list, put_number, put_quoted, put_words,
+    truth_word_of,
+};
+use crate::{Expr, MathOp, Selector};
+use acts_core::{Bytes, NoMemory};
+use std::alloc::{AllocError, Global};
+
+// The levels of forms, from the loosest to the tightest (docs/SELECTORS.md).
+const OR: u8 = 1;
+
+const AND: u8 = 2;
+
+const NOT: u8 = 3;
+
+const COMPARISON: u8 = 4;
+
+const SUM: u8 = 5;
+
+const PRODUCT: u8 = 6;
+
+const UNARY: u8 = 7;
+
+const PRIMARY: u8 = 8;
+
+/// The level of a sum or a product.
+fn math_level(op: MathOp) -> u8
+    ensures { result ≡ level_of_math op }
+{
+    match op {
+        MathOp::Add | MathOp::Sub => SUM,
+        MathOp::Mul | MathOp::Div => PRODUCT,
+    }
+}
+
+/// The level of an expression.
+fn level(expr: &Expr) -> u8
+    ensures { result ≡ level_of (tree_of expr.now) }
+{
+    match expr {
+        Expr::Or(_, _) => OR,
+        Expr::And(_, _) => AND,
+        Expr::Not(_) => NOT,
+        Expr::Compare { .. } | Expr::Between { .. } => COMPARISON,
+        Expr::OneOf { .. } | Expr::Like { .. } | Expr::IsNull { .. } => COMPARISON,
+        Expr::Math { op, .. } => math_level(*op),
+        Expr::Minus(_) | Expr::Plus(_) => UNARY,
+        Expr::Int(_) | Expr::Text(_) | Expr::Bool(_) | Expr::Name(_) => PRIMARY,
+    }
+}
+
+/// Puts a part at the end, in parentheses where its level is below the one that its place asks for.
+#[cycle(text)]
+fn put_part(out: &mut Vec<u8>, part: &Expr, asked: u8) -> Result<(), AllocError>
+    ensures { OnOk result (out.new.items ≡ out.old.items ++ text_at asked (tree_of part.now)) }
+{
+    if level(part) >= asked {
+        return put(out, part);
+    }
+    out.extend_from_slice(b"(")?;
+    put(out, part)?;
+    out.extend_from_slice(b")")
+}
+
+/// Puts an expression at the end, without parentheses around it.
+#[cycle(text)]
+fn put(out: &mut Vec<u8>, expr: &Expr) -> Result<(), AllocError>
+    ensures { OnOk result (out.new.items ≡ out.old.items ++ text_at 1 (tree_of expr.now)) }
+{
+    match expr {
+        Expr::Int(number) => put_number(out, *number),
+        Expr::Text(text) => put_quoted(out, text.as_slice()),
+        Expr::Bool(truth) => out.extend_from_slice(truth_word_of(*truth)),
+        Expr::Name(name) => out.extend_from_slice(name.as_slice()),
+        Expr::Minus(part) => {
+            out.extend_from_slice(b"-")?;
+            put_part(out, part, UNARY)
+        }
+        Expr::Plus(part) => {
+            out.extend_from_slice(b"+")?;
+            put_part(out, part, UNARY)
+        }
+        Expr::Math { op, left, right } => {
+            let level = math_level(*op);
+            put_part(out, left, level)?;
+            out.extend_from_slice(math_sign_of(*op))?;
+            put_part(out, right, level + 1)
+        }
+        Expr::Compare { op, left, right } => {
+            put_part(out, left, SUM)?;
+            out.extend_from_slice(compare_sign_of(*op))?;
+            put_part(out, right, SUM)
+        }
+        Expr::Between {
+            negated,
+            value,
+            low,
+            high,
+        } => {
+            put_part(out, value, SUM)?;
+            put_words(out, *negated, b" BETWEEN ")?;
+            put_part(out, low, SUM)?;
+            out.extend_from_slice(b" AND ")?;
+            put_part(out, high, SUM)
+        }
+        Expr::OneOf {
+            negated,
+            name,
+            list,
+        } => {
+            out.extend_from_slice(name.as_slice())?;
+            put_words(out, *negated, b" IN (")?;
+            put_list(out, list)?;
+            out.extend_from_slice(b")")
+        }
+        Expr::Like {
+            negated,
+            name,
+            pattern,
+            escape,
+        } => {
+            out.extend_from_slice(name.as_slice())?;
+            put_words(out, *negated, b" LIKE ")?;
+            put_quoted(out, pattern.as_slice())?;
+            put_escape(out, *escape)
+        }
+        Expr::IsNull { negated, name } => {
+            out.extend_from_slice(name.as_slice())?;
+            out.extend_from_slice(b" IS")?;
+            put_words(out, *negated, b" NULL")
+        }
+        Expr::Not(part) => {
+            out.extend_from_slice(b"NOT ")?;
+            put_part(out, part, NOT)
+        }
+        Expr::And(left, right) => {
+            put_part(out, left, AND)?;
+            out.extend_from_slice(b" AND ")?;
+            put_part(out, right, NOT)
+        }
+        Expr::Or(left, right) => {
+            put_part(out, left, OR)?;
+            out.extend_from_slice(b" OR ")?;
+            put_part(out, right, AND)
+        }
+    }
+}
+
+/// A text that stands for the selector: reserved words in capitals, one space between tokens, and parentheses only
+/// where they are needed. Where it is short enough to be read, it is read as the same selector.
+pub fn text(alloc: Global, selector: &Selector) -> Result<Bytes, NoMemory>
+    ensures bytes { IfOk result (λ bytes. bytes ≡ text_at 1 selector.now) }
+    ensures stands { IfOk result (λ bytes. StandsFor bytes selector.now) }
+    ensures again { IfOk result (λ bytes. length bytes ≤ longest_text → selector_of bytes ≡ reads selector.now) }
+{
+    let mut out = Vec::new(alloc);
+    match put(&mut out, selector.written()) {
+        Ok(()) => Ok(Bytes::from_vec(out)),
+        Err(_) => Err(NoMemory),
+    }
+}
