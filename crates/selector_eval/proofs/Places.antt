@@ -1,9 +1,8 @@
 -- How a text goes with a pattern up to a place of it, in bytes as the functions say it.
 use Rattle.std.proofs.Common.{◌≡◌, ◌≢◌, ℕ, ◌<◌, ◌≤◌, ◌==◌, eq-eqb, eqb-true, arith, true, false, List, [], ◌∷◌, length, Option, refl, sym, ◌∙◌, ap}
-use Rattle.std.specs.Str.{chars, IsUtf8, encode_utf8_all, is_utf8}
-use Rattle.std.proofs.lemmas.Str.{chars-nil, encodes-chars, is_utf8-from_IsUtf8, IsUtf8-from_is_utf8}
-use Rattle.std.proofs.lemmas.Bool.{false≢true, false_from_ne_true}
-use Rattle.selector_read.specs.Grammar.{characters}
+use Rattle.std.specs.Str.{chars, IsUtf8, encode_utf8_all}
+use Rattle.std.proofs.lemmas.Str.{chars-nil, encodes-chars}
+use Rattle.std.proofs.lemmas.Bool.{false≢true}
 use Rattle.selector_eval.specs.declared.patterns.Part.{Part}
 use Rattle.selector_eval.specs.declared.patterns.Part.TheVariants.{Any}
 use Rattle.selector_eval.specs.declared.patterns.Reached.{Reached}
@@ -49,13 +48,3 @@ empty_of_empty (c ∷ t) none = let e : length (c ∷ t) ≡ 0 = eqb-true (lengt
 
 pub some_of_some_text : (t : List ℕ) → IsUtf8 t → length t == 0 ≡ false → is_empty (chars t) ≡ false
 some_of_some_text t text some = no_characters t (chars t) refl (encodes-chars t text) some
-
--- ---- the characters of bytes
-
-pub characters_of_text : (t : List ℕ) → IsUtf8 t → characters t ≡ chars t
-unfolding characters
-characters_of_text t text = rw (is_utf8-from_IsUtf8 t text) refl
-
-pub characters_of_other : (t : List ℕ) → (IsUtf8 t → ⊥) → characters t ≡ chars []
-unfolding characters
-characters_of_other t other = let no : is_utf8 t ≡ false = false_from_ne_true (is_utf8 t) (λ yes. other (IsUtf8-from_is_utf8 t yes)) in rw (no, chars-nil) refl

@@ -5,7 +5,7 @@ ghost use Rattle.selector_read.specs.Grammar.{characters};
 ghost use Rattle.selector_eval.specs.Patterns.{stands_for, fits, parts, some_rest};
 ghost use Rattle.selector_eval.specs.Reached.{IsAfterPercent, Tells};
 
-use std::str::from_utf8;
+use selector_read::as_text;
 
 /// What one place of a pattern stands for.
 #[derive(Clone, Copy, Debug, PartialEq, Eq)]
@@ -132,21 +132,11 @@ fn fits_somewhere<'a>(escape: Option<char>, mut pattern: &'a str, mut text: &'a 
     }
 }
 
-/// The bytes as a text. Those of selectors and messages are UTF-8; of others this would be the empty text.
-fn text_of(bytes: &[u8]) -> &str
-    ensures { chars result.now ≡ characters bytes.now }
-{
-    match from_utf8(bytes) {
-        Ok(text) => text,
-        Err(_) => "",
-    }
-}
-
 /// Whether the whole text fits the pattern, by their characters.
 pub(crate) fn is_like(escape: Option<char>, pattern: &[u8], text: &[u8]) -> bool
     ensures { result ≡ fits escape (characters pattern.now) (characters text.now) }
 {
-    is_like_text(escape, text_of(pattern), text_of(text))
+    is_like_text(escape, as_text(pattern), as_text(text))
 }
 
 /// The same of texts.

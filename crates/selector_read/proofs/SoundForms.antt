@@ -7,7 +7,8 @@ use Rattle.selector_tokens.specs.declared.tokens.Token.TheVariants.{Word, Number
 use Rattle.selector_tokens.specs.declared.tokens.Word.TheVariants as reserved
 use Rattle.selector_read.specs.Trees.{Tree, int, between, math}
 use Rattle.selector_read.specs.Grammar.{Derives, GoesOnWithin, negated_by, a_number, in_parentheses, or_more, and_more, negated, compared, within, added, subtracted, multiplied, divided, signed_plus, signed_minus}
-use Rattle.selector_read.specs.Reading.{Begun, or_of, and_of, not_of, compare_of, low_of, high_of, math_of, minus_of, plus_of, paren, math_level, level, awaits, whole, awaited, nests, nesting, Held, settle}
+use Rattle.selector_read.specs.Reading.{Begun, or_of, and_of, not_of, compare_of, low_of, high_of, math_of, minus_of, plus_of, paren, level, awaits, whole, awaited, nests, nesting, Held, settle}
+use Rattle.selector_read.specs.Grammar.{math_level}
 use Rattle.selector_read.proofs.SoundLevels.{raise, deeper}
 
 abbrev pub math_token : MathOp → Token

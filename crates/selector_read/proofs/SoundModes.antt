@@ -9,7 +9,8 @@ use Rattle.selector_tokens.specs.declared.tokens.Token.TheVariants.{Name, Word, 
 use Rattle.selector_tokens.specs.declared.tokens.Word.TheVariants as reserved
 use Rattle.selector_read.specs.Trees.{Tree, int, text, truth, name}
 use Rattle.selector_read.specs.Grammar.{Derives, negated_by, listed, a_number, a_string, a_true, a_false, a_name}
-use Rattle.selector_read.specs.Reading.{Begun, or_of, and_of, not_of, compare_of, low_of, high_of, math_of, minus_of, plus_of, paren, math_level, awaited, nesting, Held, Mode, operand, named, valued, not_value, not_name, null_next, list_next, item_next, item_read, pattern_next, pattern_read, escape_next, State, state, Step, goes, unexpected, too_deep, open_pattern, begins, sum_only, math_step, compare_step, operand_step, only_character}
+use Rattle.selector_read.specs.Reading.{Begun, or_of, and_of, not_of, compare_of, low_of, high_of, math_of, minus_of, plus_of, paren, awaited, nesting, Held, Mode, operand, named, valued, not_value, not_name, null_next, list_next, item_next, item_read, pattern_next, pattern_read, escape_next, State, state, Step, goes, unexpected, too_deep, open_pattern, begins, sum_only, math_step, compare_step, operand_step, only_character}
+use Rattle.selector_read.specs.Grammar.{math_level}
 use Rattle.selector_read.proofs.SoundLevels.{raise}
 use Rattle.selector_read.proofs.SoundForms.{math_token, outer, stands_as, Left, Opened, opened, Below, Settled, depth_left}
 

@@ -9,7 +9,8 @@ use Rattle.selector_tokens.specs.declared.tokens.Token.TheVariants.{Name, Word, 
 use Rattle.selector_tokens.specs.declared.tokens.Word.TheVariants as reserved
 use Rattle.selector_read.specs.Trees.{Tree, int, text, truth, name, minus, plus, math, compare, between, one_of, like, is_null, negation, both, either}
 use Rattle.selector_read.specs.Grammar.{Derives, negated_by, listed, or_first, or_more, and_first, and_more, negated, unnegated, uncompared, compared, within, listed_in, alike, alike_escaped, null_or_not, sum_first, added, subtracted, product_first, multiplied, divided, signed_plus, signed_minus, unsigned, a_number, a_string, a_true, a_false, a_name, in_parentheses}
-use Rattle.selector_read.specs.Writing.{level_of, level_of_math}
+use Rattle.selector_read.specs.Writing.{level_of}
+use Rattle.selector_read.specs.Grammar.{math_level}
 
 abbrev pub enclosed_tokens : ℕ → ℕ → List Token → List Token
 enclosed_tokens asked own ts = if nat_lt own asked then Open ∷ ts ++ Close ∷ [] else ts
@@ -40,7 +41,7 @@ tokens_at l (truth b) = enclosed_tokens l 8 (truth_token b ∷ [])
 tokens_at l (name x) = enclosed_tokens l 8 (Name x ∷ [])
 tokens_at l (minus a) = enclosed_tokens l 7 (Minus ∷ tokens_at 7 a)
 tokens_at l (plus a) = enclosed_tokens l 7 (Plus ∷ tokens_at 7 a)
-tokens_at l (math op a b) = enclosed_tokens l (level_of_math op) (tokens_at (level_of_math op) a ++ math_token op ∷ tokens_at (level_of_math op + 1) b)
+tokens_at l (math op a b) = enclosed_tokens l (math_level op) (tokens_at (math_level op) a ++ math_token op ∷ tokens_at (math_level op + 1) b)
 tokens_at l (compare op a b) = enclosed_tokens l 4 (tokens_at 5 a ++ Compare op ∷ tokens_at 5 b)
 tokens_at l (between n a b c) = enclosed_tokens l 4 (tokens_at 5 a ++ negated_by n ++ Word reserved.Between ∷ tokens_at 5 b ++ Word reserved.And ∷ tokens_at 5 c)
 tokens_at l (one_of n x list) = enclosed_tokens l 4 (Name x ∷ negated_by n ++ Word reserved.In ∷ Open ∷ list_tokens list ++ Close ∷ [])

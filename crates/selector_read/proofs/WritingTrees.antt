@@ -13,7 +13,8 @@ use Rattle.selector_tokens.specs.Lexing.{first_token, word_of, lexed}
 use Rattle.selector_read.specs.Trees.{Tree, int, text, truth, name, minus, plus, math, compare, between, one_of, like, is_null, negation, both, either}
 use Rattle.selector_read.specs.Grammar.{Derives, negated_by, listed, most_nested, or_first, or_more, and_first, and_more, negated, unnegated, uncompared, compared, within, listed_in, alike, alike_escaped, null_or_not, sum_first, added, subtracted, product_first, multiplied, divided, signed_plus, signed_minus, unsigned, a_number, a_string, a_true, a_false, a_name, in_parentheses}
 use Rattle.selector_read.specs.Selectors.{StandsFor, IsWritable, tokens}
-use Rattle.selector_read.specs.Writing.{level_of_math, math_sign, compare_sign, truth_word, words, quoted, after_comma, comma_list, escape_text, enclosed, text_at}
+use Rattle.selector_read.specs.Writing.{math_sign, compare_sign, truth_word, words, quoted, after_comma, comma_list, escape_text, enclosed, text_at}
+use Rattle.selector_read.specs.Grammar.{math_level}
 use Rattle.selector_read.proofs.WritingTokens.{enclosed_tokens, math_token, truth_token, list_tokens, escape_tokens, tokens_at, fewest_derive}
 use Rattle.selector_read.proofs.WritingCuts.{Cut, cut_of, cuts, cut_is, cuts_read, IsName, IsReadToken}
 use Rattle.selector_read.proofs.WritingPieces.{at_end, at_space, Lexes, Begins, Starts, lexes_before, lexes_after, begins_after, begins_lexes, letters_lexed, name_lexed, number_lexed, string_lexed, open_lexed, close_lexed, close_starts, comma_lexed, comma_starts, minus_lexed, plus_lexed, or_lexed, and_lexed, not_lexed, between_lexed, in_lexed, like_lexed, escape_lexed}
@@ -165,9 +166,9 @@ tree_lexed (name x) l is = enclosed_lexed l 8 _ _ (name_lexed x is)
 tree_lexed (minus a) l is = enclosed_lexed l 7 _ _ (lexes_before (codes "-") (text_at 7 a) (Minus ∷ []) (tokens_at 7 a) minus_lexed (tree_lexed a 7 is))
 tree_lexed (plus a) l is = enclosed_lexed l 7 _ _ (lexes_before (codes "+") (text_at 7 a) (Plus ∷ []) (tokens_at 7 a) plus_lexed (tree_lexed a 7 is))
 tree_lexed (math op a b) l is =
-    enclosed_lexed l (level_of_math op) _ _
-    (infix_lexed (text_at (level_of_math op) a) (math_sign op) (text_at (level_of_math op + 1) b) (tokens_at (level_of_math op) a) (math_token op ∷ []) (tokens_at (level_of_math op + 1) b)
-    (tree_lexed a (level_of_math op) is.0) (math_starts op) (math_lexed op) (tree_lexed b (level_of_math op + 1) is.1))
+    enclosed_lexed l (math_level op) _ _
+    (infix_lexed (text_at (math_level op) a) (math_sign op) (text_at (math_level op + 1) b) (tokens_at (math_level op) a) (math_token op ∷ []) (tokens_at (math_level op + 1) b)
+    (tree_lexed a (math_level op) is.0) (math_starts op) (math_lexed op) (tree_lexed b (math_level op + 1) is.1))
 tree_lexed (compare op a b) l is =
     enclosed_lexed l 4 _ _ (infix_lexed (text_at 5 a) (compare_sign op) (text_at 5 b) (tokens_at 5 a) (Compare op ∷ []) (tokens_at 5 b) (tree_lexed a 5 is.0) (compare_starts op) (compare_lexed op) (tree_lexed b 5 is.1))
 tree_lexed (between n a b c) l is =

@@ -2,6 +2,7 @@
 use Rattle.std.specs.Prelude.{◌≡◌, ℕ, suc, pos, Bool, true, false, not, ◌==◌, List, [], ◌∷◌, ◌++◌, Some, None, if◌then◌else◌}
 use Rattle.std.specs.Char.{IsScalar, encode_utf8}
 use Rattle.std.specs.Str.{chars, is_utf8}
+use Rattle.selector_read.specs.declared.trees.MathOp.{MathOp}
 use Rattle.selector_read.specs.declared.trees.MathOp.TheVariants.{Add, Sub, Mul, Div}
 use Rattle.selector_tokens.specs.declared.tokens.CompareOp.{CompareOp}
 use Rattle.selector_tokens.specs.declared.tokens.Token.{Token}
@@ -35,6 +36,13 @@ characters s = if is_utf8 s then chars s else []
 
 abbrev pub is_whole_pattern : ℕ → List ℕ → Bool
 is_whole_pattern escape pattern = is_closed escape (characters pattern)
+
+-- the level of a sum or a product
+abbrev pub math_level : MathOp → ℕ
+math_level Add = 5
+math_level Sub = 5
+math_level Mul = 6
+math_level Div = 6
 
 -- `Derives l d tokens tree`: the tokens are a form of level l which stands for the tree, and no more than d of its parentheses, NOTs and signs
 -- are unfinished at any place. The levels: 1 or, 2 and, 3 not, 4 comparison, 5 sum, 6 product, 7 unary, 8 primary.

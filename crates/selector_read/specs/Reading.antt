@@ -10,7 +10,7 @@ use Rattle.selector_tokens.specs.declared.tokens.Token.{Token}
 use Rattle.selector_tokens.specs.declared.tokens.Token.TheVariants.{Name, Word, Number, Text, Compare, Plus, Minus, Times, Divide, Open, Close, Comma}
 use Rattle.selector_tokens.specs.declared.tokens.Word.TheVariants as reserved
 use Rattle.selector_read.specs.Trees.{Tree, int, text, truth, name, minus, plus, math, compare, between, one_of, like, is_null, negation, both, either}
-use Rattle.selector_read.specs.Grammar.{characters, is_whole_pattern, most_nested}
+use Rattle.selector_read.specs.Grammar.{math_level, characters, is_whole_pattern, most_nested}
 use Rattle.selector_read.specs.Selectors.{Outcome, reads, refused, longest_text}
 use Rattle.selector_tokens.specs.declared.tokens.Placed.{Placed}
 use Rattle.selector_tokens.specs.Lexing.{Stop, lexed}
@@ -29,13 +29,6 @@ pub data Begun : Type 0 where
   plus_of : Begun
   -- an open parenthesis
   paren : Begun
-
--- the level of a sum or a product
-abbrev pub math_level : MathOp → ℕ
-math_level Add = 5
-math_level Sub = 5
-math_level Mul = 6
-math_level Div = 6
 
 -- the level of the form, once it is whole; 0 where the part that it waits for doesn't end it
 abbrev pub level : Begun → ℕ

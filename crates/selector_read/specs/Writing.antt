@@ -6,14 +6,8 @@ use Rattle.selector_read.specs.declared.trees.MathOp.{MathOp}
 use Rattle.selector_read.specs.declared.trees.MathOp.TheVariants.{Add, Sub, Mul, Div}
 use Rattle.selector_tokens.specs.declared.tokens.CompareOp.{CompareOp}
 use Rattle.selector_tokens.specs.declared.tokens.CompareOp.TheVariants.{Equal, Unequal, Less, LessEqual, Greater, GreaterEqual}
+use Rattle.selector_read.specs.Grammar.{math_level}
 use Rattle.selector_read.specs.Trees.{Tree, int, text, truth, name, minus, plus, math, compare, between, one_of, like, is_null, negation, both, either}
-
--- a sum or a product
-abbrev pub level_of_math : MathOp → ℕ
-level_of_math Add = 5
-level_of_math Sub = 5
-level_of_math Mul = 6
-level_of_math Div = 6
 
 -- the level of a form (Grammar.antt)
 abbrev pub level_of : Tree → ℕ
@@ -23,7 +17,7 @@ level_of (truth b) = 8
 level_of (name x) = 8
 level_of (minus a) = 7
 level_of (plus a) = 7
-level_of (math op a b) = level_of_math op
+level_of (math op a b) = math_level op
 level_of (compare op a b) = 4
 level_of (between n a b c) = 4
 level_of (one_of n x list) = 4
@@ -86,7 +80,7 @@ text_at l (truth b) = enclosed l 8 (truth_word b)
 text_at l (name x) = enclosed l 8 x
 text_at l (minus a) = enclosed l 7 (codes "-" ++ text_at 7 a)
 text_at l (plus a) = enclosed l 7 (codes "+" ++ text_at 7 a)
-text_at l (math op a b) = enclosed l (level_of_math op) (text_at (level_of_math op) a ++ math_sign op ++ text_at (level_of_math op + 1) b)
+text_at l (math op a b) = enclosed l (math_level op) (text_at (math_level op) a ++ math_sign op ++ text_at (math_level op + 1) b)
 text_at l (compare op a b) = enclosed l 4 (text_at 5 a ++ compare_sign op ++ text_at 5 b)
 text_at l (between n a b c) = enclosed l 4 (text_at 5 a ++ words n (codes " BETWEEN ") ++ text_at 5 b ++ codes " AND " ++ text_at 5 c)
 text_at l (one_of n x list) = enclosed l 4 (x ++ words n (codes " IN (") ++ comma_list list ++ codes ")")

@@ -2,9 +2,10 @@
 ghost use Rattle.std.specs.Prelude.{◌≡◌, ◌<◌, ◌≤◌, ◌+◌, ◌↔◌, ◌∷◌, [], false, nat_le, nat_lt, true, IfOk, IsTrue, MatchBool, MatchOption, MatchResult, OnOk, OnErr, box_value};
 ghost use Rattle.selector_read.specs.Forms.{begun_of, held, may_take, waits_close, waits_low};
 ghost use Rattle.selector_read.specs.Grammar.{most_nested};
-ghost use Rattle.selector_read.specs.Reading.{awaited, awaits, level, low_of, math_level, nesting, nests, paren, settle, whole};
+ghost use Rattle.selector_read.specs.Reading.{awaited, awaits, level, low_of, nesting, nests, paren, settle, whole};
 ghost use Rattle.selector_read.specs.Trees.{tree_of};
 
+use crate::levels::{AND, COMPARISON, NOT, OR, SUM, UNARY, math_level};
 use crate::trees::{Expr, MathOp};
 use acts_core::NoMemory;
 use selector_tokens::CompareOp;
@@ -33,16 +34,6 @@ pub(crate) enum Begun {
     Paren,
 }
 
-/// The level of a sum or a product.
-pub(crate) fn level_of(op: MathOp) -> u8
-    ensures { result ≡ math_level op }
-{
-    match op {
-        MathOp::Add | MathOp::Sub => 5,
-        MathOp::Mul | MathOp::Div => 6,
-    }
-}
-
 /// The expression in a box.
 pub(crate) fn boxed(alloc: Global, expr: Expr) -> Result<Box<Expr>, NoMemory>
     ensures { IfOk result (λ b. box_value b ≡ expr) }
@@ -59,12 +50,12 @@ impl Begun {
         ensures { result ≡ level (begun_of self.now) }
     {
         match self {
-            Begun::Or(_) => 1,
-            Begun::And(_) => 2,
-            Begun::Not => 3,
-            Begun::Compare(_, _) | Begun::High(_, _, _) => 4,
-            Begun::Math(op, _) => level_of(*op),
-            Begun::Minus | Begun::Plus => 7,
+            Begun::Or(_) => OR,
+            Begun::And(_) => AND,
+            Begun::Not => NOT,
+            Begun::Compare(_, _) | Begun::High(_, _, _) => COMPARISON,
+            Begun::Math(op, _) => math_level(*op),
+            Begun::Minus | Begun::Plus => UNARY,
             Begun::Low(_, _) | Begun::Paren => 0,
         }
     }
@@ -74,12 +65,12 @@ impl Begun {
         ensures { result ≡ awaits (begun_of self.now) }
     {
         match self {
-            Begun::Or(_) => 2,
-            Begun::And(_) | Begun::Not => 3,
-            Begun::Compare(_, _) | Begun::Low(_, _) | Begun::High(_, _, _) => 5,
-            Begun::Math(op, _) => level_of(*op) + 1,
-            Begun::Minus | Begun::Plus => 7,
-            Begun::Paren => 1,
+            Begun::Or(_) => AND,
+            Begun::And(_) | Begun::Not => NOT,
+            Begun::Compare(_, _) | Begun::Low(_, _) | Begun::High(_, _, _) => SUM,
+            Begun::Math(op, _) => math_level(*op) + 1,
+            Begun::Minus | Begun::Plus => UNARY,
+            Begun::Paren => OR,
         }
     }
 
@@ -173,7 +164,7 @@ impl Forms {
     {
         match self.begun.front() {
             Some(form) => form.awaits(),
-            None => 1,
+            None => OR,
         }
     }
 

@@ -3,6 +3,7 @@
 
 mod begun;
 pub mod laws;
+mod levels;
 mod modes;
 mod patterns;
 mod reading;
@@ -15,6 +16,7 @@ mod trees;
 mod writing;
 mod writing_pieces;
 
+pub use patterns::as_text;
 pub use reading::read;
 pub use selector_tokens::{CompareOp, Kind, SelectorFault};
 pub use selectors::Selector;

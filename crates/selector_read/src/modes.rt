@@ -10,7 +10,7 @@ pub(crate) enum Mode {
     Operand,
     /// Behind a name that may begin a comparison by IN, LIKE or IS.
     Named(Bytes),
-    /// Behind an expression of this level: 8, or 4 for a comparison.
+    /// Behind an expression of this level: PRIMARY, or COMPARISON for a form of LIKE, IN or IS.
     Valued(Expr, u8),
     /// Behind an expression and NOT: BETWEEN.
     NotValue(Expr),

@@ -6,8 +6,8 @@ ghost use Rattle.selector_read.specs.Reading.{only_character};
 
 use std::str::from_utf8;
 
-/// The bytes as a text, which is empty where they are no UTF-8, as the strings of a text never are.
-fn as_text(bytes: &[u8]) -> &str
+/// The bytes of a name or a string as a text. Those of selectors and messages are UTF-8; of others it is the empty text.
+pub fn as_text(bytes: &[u8]) -> &str
     ensures { chars result.now ≡ characters bytes.now }
 {
     match from_utf8(bytes) {

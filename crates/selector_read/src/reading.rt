@@ -9,6 +9,7 @@ ghost use Rattle.selector_read.specs.Trees.{tree_of};
 
 use crate::Selector;
 use crate::begun::Forms;
+use crate::levels::OR;
 use crate::modes::{Mode, StepFault};
 use crate::steps::step;
 use crate::trees::Expr;
@@ -59,7 +60,7 @@ fn finish(alloc: Global, forms: &mut Forms, mode: Mode) -> Result<Option<Expr>, 
         },
         _ => return Ok(None),
     };
-    let expr = forms.settle(alloc, 1, expr)?;
+    let expr = forms.settle(alloc, OR, expr)?;
     if forms.is_empty() {
         Ok(Some(expr))
     } else {

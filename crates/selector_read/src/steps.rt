@@ -6,6 +6,7 @@ ghost use Rattle.selector_read.specs.Modes.{Steps, mode_of};
 ghost use Rattle.selector_read.specs.Reading.{begins, nests, operand_step, step_in};
 
 use crate::begun::{Begun, Forms, MOST_NESTED};
+use crate::levels::{COMPARISON, NOT, PRIMARY};
 use crate::modes::{Mode, StepFault};
 use crate::steps_in_forms::{
     item_read_step, item_step, list_step, not_name_step, not_value_step, null_step,
@@ -33,16 +34,16 @@ fn operand_step(forms: &mut Forms, token: Token) -> Result<Mode, StepFault>
     ensures { Steps forms.new result (operand_step most_nested forms.old token) }
 {
     match token {
-        Token::Word(Word::Not) if forms.awaited() <= 3 => nest(forms, Begun::Not),
+        Token::Word(Word::Not) if forms.awaited() <= NOT => nest(forms, Begun::Not),
         Token::Plus => nest(forms, Begun::Plus),
         Token::Minus => nest(forms, Begun::Minus),
         Token::Open => nest(forms, Begun::Paren),
-        Token::Number(number) => Ok(Mode::Valued(Expr::Int(number), 8)),
-        Token::Text(text) => Ok(Mode::Valued(Expr::Text(text), 8)),
-        Token::Word(Word::True) => Ok(Mode::Valued(Expr::Bool(true), 8)),
-        Token::Word(Word::False) => Ok(Mode::Valued(Expr::Bool(false), 8)),
-        Token::Name(name) if forms.awaited() <= 4 => Ok(Mode::Named(name)),
-        Token::Name(name) => Ok(Mode::Valued(Expr::Name(name), 8)),
+        Token::Number(number) => Ok(Mode::Valued(Expr::Int(number), PRIMARY)),
+        Token::Text(text) => Ok(Mode::Valued(Expr::Text(text), PRIMARY)),
+        Token::Word(Word::True) => Ok(Mode::Valued(Expr::Bool(true), PRIMARY)),
+        Token::Word(Word::False) => Ok(Mode::Valued(Expr::Bool(false), PRIMARY)),
+        Token::Name(name) if forms.awaited() <= COMPARISON => Ok(Mode::Named(name)),
+        Token::Name(name) => Ok(Mode::Valued(Expr::Name(name), PRIMARY)),
         _ => Err(StepFault::Unexpected),
     }
 }

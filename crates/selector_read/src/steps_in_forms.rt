@@ -6,6 +6,7 @@ ghost use Rattle.selector_read.specs.Reading.{goes, item_read_step, item_step, l
 ghost use Rattle.selector_read.specs.Trees.{tree_of};
 
 use crate::begun::{Begun, Forms, MOST_NESTED, boxed};
+use crate::levels::COMPARISON;
 use crate::modes::{Mode, StepFault};
 use crate::trees::Expr;
 use acts_core::Bytes;
@@ -63,7 +64,7 @@ pub(crate) fn null_step(negated: bool, name: Bytes, token: Token) -> Result<Mode
     ensures { StepsAnywhere result (λ fs. null_step fs negated name token) }
 {
     match token {
-        Token::Word(Word::Null) => Ok(Mode::Valued(Expr::IsNull { negated, name }, 4)),
+        Token::Word(Word::Null) => Ok(Mode::Valued(Expr::IsNull { negated, name }, COMPARISON)),
         Token::Word(Word::Not) if !negated => Ok(Mode::NullNext {
             negated: true,
             name,
@@ -139,7 +140,7 @@ pub(crate) fn item_read_step(
                 name,
                 list,
             },
-            4,
+            COMPARISON,
         )),
         _ => Err(StepFault::Unexpected),
     }

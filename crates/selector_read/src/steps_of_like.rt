@@ -4,6 +4,7 @@ ghost use Rattle.selector_read.specs.Modes.{Steps, StepsAnywhere};
 ghost use Rattle.selector_read.specs.Reading.{escape_step, pattern_read_step, pattern_step};
 
 use crate::begun::Forms;
+use crate::levels::COMPARISON;
 use crate::modes::{Mode, StepFault};
 use crate::patterns::{is_whole_pattern, only_character};
 use crate::steps_on_values::value_step;
@@ -50,7 +51,7 @@ pub(crate) fn pattern_read_step(
                 pattern,
                 escape: None,
             };
-            value_step(alloc, forms, like, 4, token)
+            value_step(alloc, forms, like, COMPARISON, token)
         }
     }
 }
@@ -80,6 +81,6 @@ pub(crate) fn escape_step(
             pattern,
             escape: Some(escape),
         },
-        4,
+        COMPARISON,
     ))
 }

@@ -1,10 +1,12 @@
 //! What a token does behind an expression.
 ghost use Rattle.std.specs.Prelude.{◌≡◌, ◌≤◌, ◌∷◌, false, MatchResult};
 ghost use Rattle.selector_read.specs.Modes.{Compares, Steps, Stops, and_held, close_held, comparison, or_held};
-ghost use Rattle.selector_read.specs.Reading.{Held, State, compare_of, low_of, math_level, math_step, named_step, not_value, operand, settle, state, sum_only, value_step};
+ghost use Rattle.selector_read.specs.Grammar.{math_level};
+ghost use Rattle.selector_read.specs.Reading.{Held, State, compare_of, low_of, math_step, named_step, not_value, operand, settle, state, sum_only, value_step};
 ghost use Rattle.selector_read.specs.Trees.{tree_of};
 
-use crate::begun::{Begun, Forms, boxed, level_of};
+use crate::begun::{Begun, Forms, boxed};
+use crate::levels::{AND, COMPARISON, OR, PRIMARY, SUM, math_level};
 use crate::modes::{Mode, StepFault};
 use crate::trees::{Expr, MathOp};
 use acts_core::Bytes;
@@ -21,10 +23,10 @@ fn math_step(
 ) -> Result<Mode, StepFault>
     ensures { Steps forms.new result (sum_only level (math_step op (settle (math_level op) forms.old (tree_of expr)))) }
 {
-    if level < 5 {
+    if level < SUM {
         return Err(StepFault::Unexpected);
     }
-    let left = forms.settle(alloc, level_of(op), expr)?;
+    let left = forms.settle(alloc, math_level(op), expr)?;
     forms.begin(Begun::Math(op, boxed(alloc, left)?))?;
     Ok(Mode::Operand)
 }
@@ -33,11 +35,11 @@ fn math_step(
 fn compared(alloc: Global, forms: &mut Forms, expr: Expr, level: u8) -> Result<Expr, StepFault>
     ensures { MatchResult result (λ e. Compares level forms.old (tree_of expr) forms.new (tree_of e)) (λ why. (next : Held → State) → Stops why (comparison level forms.old (tree_of expr) next)) }
 {
-    if level < 5 {
+    if level < SUM {
         return Err(StepFault::Unexpected);
     }
-    let sum = forms.settle(alloc, 5, expr)?;
-    if forms.awaited() > 4 {
+    let sum = forms.settle(alloc, SUM, expr)?;
+    if forms.awaited() > COMPARISON {
         return Err(StepFault::Unexpected);
     }
     Ok(sum)
@@ -79,7 +81,7 @@ fn not_step(alloc: Global, forms: &mut Forms, expr: Expr, level: u8) -> Result<M
 fn and_step(alloc: Global, forms: &mut Forms, expr: Expr) -> Result<Mode, StepFault>
     ensures { Steps forms.new result (and_held (settle 2 forms.old (tree_of expr))) }
 {
-    let left = boxed(alloc, forms.settle(alloc, 2, expr)?)?;
+    let left = boxed(alloc, forms.settle(alloc, AND, expr)?)?;
     let form = match forms.take_low() {
         Some((negated, value)) => Begun::High(negated, value, left),
         None => Begun::And(left),
@@ -92,7 +94,7 @@ fn and_step(alloc: Global, forms: &mut Forms, expr: Expr) -> Result<Mode, StepFa
 fn or_step(alloc: Global, forms: &mut Forms, expr: Expr) -> Result<Mode, StepFault>
     ensures { Steps forms.new result (or_held (settle 1 forms.old (tree_of expr))) }
 {
-    let left = forms.settle(alloc, 1, expr)?;
+    let left = forms.settle(alloc, OR, expr)?;
     if forms.waits_low() {
         return Err(StepFault::Unexpected);
     }
@@ -104,9 +106,9 @@ fn or_step(alloc: Global, forms: &mut Forms, expr: Expr) -> Result<Mode, StepFau
 fn close_step(alloc: Global, forms: &mut Forms, expr: Expr) -> Result<Mode, StepFault>
     ensures { Steps forms.new result (close_held (settle 1 forms.old (tree_of expr))) }
 {
-    let inner = forms.settle(alloc, 1, expr)?;
+    let inner = forms.settle(alloc, OR, expr)?;
     if forms.take_paren() {
-        Ok(Mode::Valued(inner, 8))
+        Ok(Mode::Valued(inner, PRIMARY))
     } else {
         Err(StepFault::Unexpected)
     }
@@ -160,6 +162,6 @@ pub(crate) fn named_step(
             name,
         }),
         Token::Word(Word::Not) => Ok(Mode::NotName(name)),
-        token => value_step(alloc, forms, Expr::Name(name), 8, token),
+        token => value_step(alloc, forms, Expr::Name(name), PRIMARY, token),
     }
 }

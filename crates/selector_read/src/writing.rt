@@ -3,42 +3,16 @@ ghost use Rattle.std.specs.Prelude.{◌≡◌, ◌≤◌, ◌+◌, ◌++◌, len
 ghost use Rattle.selector_read.specs.Reading.{selector_of};
 ghost use Rattle.selector_read.specs.Selectors.{StandsFor, longest_text, reads};
 ghost use Rattle.selector_read.specs.Trees.{tree_of};
-ghost use Rattle.selector_read.specs.Writing.{level_of, level_of_math, text_at};
+ghost use Rattle.selector_read.specs.Writing.{level_of, text_at};
 
+use crate::levels::{AND, COMPARISON, NOT, OR, PRIMARY, SUM, UNARY, math_level};
 use crate::writing_pieces::{
     compare_sign_of, math_sign_of, put_escape, put_list, put_number, put_quoted, put_words,
     truth_word_of,
 };
-use crate::{Expr, MathOp, Selector};
+use crate::{Expr, Selector};
 use acts_core::{Bytes, NoMemory};
 use std::alloc::{AllocError, Global};
-
-// The levels of forms, from the loosest to the tightest (docs/SELECTORS.md).
-const OR: u8 = 1;
-
-const AND: u8 = 2;
-
-const NOT: u8 = 3;
-
-const COMPARISON: u8 = 4;
-
-const SUM: u8 = 5;
-
-const PRODUCT: u8 = 6;
-
-const UNARY: u8 = 7;
-
-const PRIMARY: u8 = 8;
-
-/// The level of a sum or a product.
-fn math_level(op: MathOp) -> u8
-    ensures { result ≡ level_of_math op }
-{
-    match op {
-        MathOp::Add | MathOp::Sub => SUM,
-        MathOp::Mul | MathOp::Div => PRODUCT,
-    }
-}
 
 /// The level of an expression.
 fn level(expr: &Expr) -> u8
