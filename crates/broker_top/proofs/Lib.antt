@@ -1,2 +1,5 @@
 pub mod Runs
 pub mod Simple
+pub mod CommandLines
+pub mod Messages
+pub mod Endings

@@ -1,60 +1,54 @@
--- which status a run of the program ends with, and what it writes
-use Rattle.std.specs.Prelude.{◌≡◌, ℕ, ◌+◌, ◌<◌, ◌≤◌, ◌⊎◌, Option, List, [], ◌∷◌, length, take, codes, Ok, Err}
+-- which status a call ends with, and what it writes
+use Rattle.std.specs.Prelude.{◌≡◌, ℕ, ◌<◌, ◌≤◌, ◌⊎◌, Option, Some, None, List, length, take, codes, Ok, Err}
 use Rattle.acts_core.specs.History.{Legal}
 use Rattle.acts_core.specs.State.{empty}
-use Rattle.outside_io.specs.Told.{Takes, Adds, AtEnd}
+use Rattle.outside_io.specs.Told.{Adds}
 use Rattle.broker_top.specs.declared.status.Status.{Status}
 use Rattle.broker_top.specs.declared.status.Status.TheVariants.{Done, InputRefused, WordsRefused, ReadFault, WriteFault, NoMemory}
 use Rattle.broker_top.specs.declared.faults.InputFault.{InputFault}
 use Rattle.broker_top.specs.declared.faults.InputFault.TheVariants as input
 use Rattle.broker_top.specs.Faults.{fault_text}
+use Rattle.broker_top.specs.Input.{IsTooLarge, IsWhole}
 use Rattle.broker_top.specs.Job.{Lines, input_says}
 use Rattle.broker_top.specs.Run.{history, run_text, start}
-
--- the greatest input, in bytes
-abbrev pub input_limit : ℕ
-input_limit = 67108864
-
--- the words are the one word `run`
-abbrev pub IsRun : List (List ℕ) → Type 0
-IsRun words = words ≡ codes "run" ∷ []
+use Rattle.broker_top.specs.Select.{IsInputRefused, IsSelected, IsSelectorRefused}
+use Rattle.broker_top.specs.Words.{Task, run, select}
 
 -- The input was read to its end, and says lines that are run. Their deeds are a legal history of an empty queue, and the text is that of their run.
-pub record IsDone (text : List ℕ) (left left' : Option (List ℕ)) : Type 0 where
+pub record IsRun (text : List ℕ) (left left' : Option (List ℕ)) : Type 0 where
   pub input : List ℕ
-  pub read : Takes left left' input
-  pub end : AtEnd left'
-  pub fits : length input ≤ input_limit
+  pub whole : IsWhole input left left'
   pub lines : Lines
   pub says : input_says input ≡ Ok lines
   pub legal : Legal (empty 1 0) (history start lines.ops)
   pub told : text ≡ run_text lines.queue lines.actor lines.ops
 
--- The input has a byte too many.
-pub record IsTooLarge (text : List ℕ) (left left' : Option (List ℕ)) : Type 0 where
-  pub front : List ℕ
-  pub read : Takes left left' front
-  pub large : length front ≡ input_limit + 1
-  pub told : text ≡ codes "fault: input too large\n"
-
 -- The input was read to its end, and is refused for this cause, which is the first.
 pub record IsLineRefused (text : List ℕ) (left left' : Option (List ℕ)) : Type 0 where
   pub input : List ℕ
-  pub read : Takes left left' input
-  pub end : AtEnd left'
-  pub fits : length input ≤ input_limit
+  pub whole : IsWhole input left left'
   pub fault : InputFault
   pub says : input_says input ≡ Err fault
   pub told : text ≡ fault_text fault
 
--- When a status comes, and the text that goes with it: by the words, by what was read, and by the source's count of faults
-abbrev pub Comes : Status → List ℕ → List (List ℕ) → Option (List ℕ) → Option (List ℕ) → ℕ → ℕ → Type 0
-Comes Done text words left left' faults faults' = IsRun words × IsDone text left left'
-Comes InputRefused text words left left' faults faults' = IsRun words × (IsTooLarge text left left' ⊎ IsLineRefused text left left')
-Comes WordsRefused text words left left' faults faults' = (IsRun words → ⊥) × (left' ≡ left) × (text ≡ codes "fault: words\n")
-Comes ReadFault text words left left' faults faults' = IsRun words × (faults < faults') × (text ≡ codes "fault: read\n")
-Comes NoMemory text words left left' faults faults' = IsRun words × (text ≡ codes "fault: memory\n")
-Comes WriteFault text words left left' faults faults' = ⊥
+-- the task was done, by what was read, and this is its text
+abbrev pub IsDone : Task → List ℕ → Option (List ℕ) → Option (List ℕ) → Type 0
+IsDone run text left left' = IsRun text left left'
+IsDone (select selector) text left left' = IsSelected selector text left left'
+
+-- the task's input is refused, by what was read, and this text tells of it
+abbrev pub IsRefused : Task → List ℕ → Option (List ℕ) → Option (List ℕ) → Type 0
+IsRefused run text left left' = IsTooLarge text left left' ⊎ IsLineRefused text left left'
+IsRefused (select selector) text left left' = IsSelectorRefused selector text left left' ⊎ IsInputRefused selector text left left'
+
+-- When a status comes of a task, and the text that goes with it: by what was read, and by the source's count of faults
+abbrev pub Comes : Task → Status → List ℕ → Option (List ℕ) → Option (List ℕ) → ℕ → ℕ → Type 0
+Comes task Done text left left' faults faults' = IsDone task text left left'
+Comes task InputRefused text left left' faults faults' = IsRefused task text left left'
+Comes task WordsRefused text left left' faults faults' = ⊥
+Comes task ReadFault text left left' faults faults' = (faults < faults') × (text ≡ codes "fault: read\n")
+Comes task NoMemory text left left' faults faults' = text ≡ codes "fault: memory\n"
+Comes task WriteFault text left left' faults faults' = ⊥
 
 -- The status's text was written. Or the sink failed, and some front of the text that goes with another status was.
 abbrev pub Tells : Status → Status → List ℕ → Option (List ℕ) → Option (List ℕ) → ℕ → ℕ → Type 0
@@ -62,14 +56,23 @@ Tells result status text written written' faults faults' =
     ((result ≡ status) × Adds written written' text)
     ⊎ ((result ≡ WriteFault) × (faults < faults') × ((n : ℕ) × (n ≤ length text) × Adds written written' (take n text)))
 
+-- this text of a refusal was told, or want of memory
+abbrev pub TellsRefusal : List ℕ → Status → Option (List ℕ) → Option (List ℕ) → ℕ → ℕ → Type 0
+TellsRefusal text result written written' faults faults' = Tells result InputRefused text written written' faults faults' ⊎ Tells result NoMemory (codes "fault: memory\n") written written' faults faults'
+
 -- The refusal for this fault was told, where it is no want of memory; or want of memory was told.
 abbrev pub Refuses : InputFault → Status → Option (List ℕ) → Option (List ℕ) → ℕ → ℕ → Type 0
 Refuses fault result written written' faults faults' =
     ((fault ≡ input.NoMemory → ⊥) × Tells result InputRefused (fault_text fault) written written' faults faults') ⊎ Tells result NoMemory (codes "fault: memory\n") written written' faults faults'
 
--- how a run of the program ends
-pub record Ends (result : Status) (words : List (List ℕ)) (left left' written written' : Option (List ℕ)) (read_faults read_faults' write_faults write_faults' : ℕ) : Type 0 where
+-- how a task ends that was asked for
+pub record TaskEnds (task : Task) (result : Status) (left left' written written' : Option (List ℕ)) (read_faults read_faults' write_faults write_faults' : ℕ) : Type 0 where
   pub status : Status
   pub text : List ℕ
-  pub comes : Comes status text words left left' read_faults read_faults'
+  pub comes : Comes task status text left left' read_faults read_faults'
   pub tells : Tells result status text written written' write_faults write_faults'
+
+-- How a call ends, by the task that it was asked for. Where it was asked for none, the words are refused, and nothing was read.
+abbrev pub Ends : Option Task → Status → Option (List ℕ) → Option (List ℕ) → Option (List ℕ) → Option (List ℕ) → ℕ → ℕ → ℕ → ℕ → Type 0
+Ends None result left left' written written' read_faults read_faults' write_faults write_faults' = (left' ≡ left) × Tells result WordsRefused (codes "fault: words\n") written written' write_faults write_faults'
+Ends (Some task) result left left' written written' read_faults read_faults' write_faults write_faults' = TaskEnds task result left left' written written' read_faults read_faults' write_faults write_faults'

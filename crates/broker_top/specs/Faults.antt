@@ -6,6 +6,8 @@ use Rattle.defs_read.specs.declared.faults.DefsFault.TheVariants as defs
 use Rattle.script_read.specs.declared.faults.LineFault.{LineFault}
 use Rattle.script_read.specs.declared.faults.LineFault.TheVariants as line
 use Rattle.script_read.specs.declared.faults.ScriptFault.{ScriptFault}
+use Rattle.selector_tokens.specs.declared.faults.Kind.{Kind}
+use Rattle.selector_tokens.specs.declared.faults.Kind.TheVariants as kind
 use Rattle.broker_top.specs.declared.faults.InputFault.{InputFault}
 use Rattle.broker_top.specs.declared.faults.InputFault.TheVariants.{Definitions, Line, NotBuilt, TooManyEntries, NoMemory}
 
@@ -16,6 +18,7 @@ defs_cause defs.UnknownField = codes "UnknownField"
 defs_cause defs.MissingField = codes "MissingField"
 defs_cause defs.FloatNumber = codes "FloatNumber"
 defs_cause defs.BadValue = codes "BadValue"
+defs_cause (defs.BadSelector at kind) = codes "BadSelector"
 defs_cause defs.DoubleName = codes "DoubleName"
 defs_cause defs.TooManyConsumers = codes "TooManyConsumers"
 defs_cause defs.NoMemory = codes "NoMemory"
@@ -35,6 +38,15 @@ line_cause line.DoubleId = codes "DoubleId"
 line_cause line.TooManyActors = codes "TooManyActors"
 line_cause line.NoMemory = codes "NoMemory"
 
+abbrev pub kind_name : Kind → List ℕ
+kind_name kind.TooLong = codes "TooLong"
+kind_name kind.BadChar = codes "BadChar"
+kind_name kind.OpenString = codes "OpenString"
+kind_name kind.FloatLiteral = codes "FloatLiteral"
+kind_name kind.IntRange = codes "IntRange"
+kind_name kind.TooDeep = codes "TooDeep"
+kind_name kind.Unexpected = codes "Unexpected"
+
 -- the line at fault, and its cause; want of memory has no line
 
 abbrev pub line_at_fault : InputFault → ℕ
@@ -51,8 +63,26 @@ cause_of (NotBuilt n) = codes "NotBuilt"
 cause_of (TooManyEntries n) = codes "TooManyEntries"
 cause_of NoMemory = codes "NoMemory"
 
+-- what is told of a cause: its name, and of a selector's fault its place and kind too
+
+abbrev pub defs_told : DefsFault → List ℕ
+defs_told (defs.BadSelector at kind) = codes "BadSelector at " ++ (decimal at ++ (codes ": " ++ kind_name kind))
+defs_told cause = defs_cause cause
+
+abbrev pub told_of : InputFault → List ℕ
+told_of (Definitions n cause) = defs_told cause
+told_of fault = cause_of fault
+
+-- the line that tells of a cause at the line of this number
+abbrev pub line_text : ℕ → List ℕ → List ℕ
+line_text number cause = codes "fault: line " ++ (decimal number ++ (codes ": " ++ (cause ++ codes "\n")))
+
 abbrev pub fault_text : InputFault → List ℕ
-fault_text fault = codes "fault: line " ++ (decimal (line_at_fault fault) ++ (codes ": " ++ (cause_of fault ++ codes "\n")))
+fault_text fault = line_text (line_at_fault fault) (told_of fault)
+
+-- the line that tells of a selector's fault at this place
+abbrev pub selector_text : ℕ → Kind → List ℕ
+selector_text at kind = codes "fault: selector at " ++ (decimal at ++ (codes ": " ++ (kind_name kind ++ codes "\n")))
 
 -- a script's fault as one of the input: want of memory stays that
 abbrev pub OfScript : ScriptFault → InputFault → Type 0

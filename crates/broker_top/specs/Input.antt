@@ -1,17 +1,36 @@
 -- reading the whole input, up to its limit
-use Rattle.std.specs.Prelude.{◌≡◌, ℕ, ◌+◌, ◌<◌, ◌≤◌, Option, List, [], ◌++◌, length, ⊤}
+use Rattle.std.specs.Prelude.{◌≡◌, ℕ, ◌+◌, ◌<◌, ◌≤◌, Option, List, [], ◌++◌, length, codes, ⊤}
 use Rattle.outside_io.specs.Told.{Takes, AtEnd}
-use Rattle.broker_top.specs.declared.input.Input.{Input}
-use Rattle.broker_top.specs.declared.input.Input.TheVariants.{Whole, TooLarge, Fault, NoMemory}
+use Rattle.broker_top.specs.declared.input.Unread.{Unread}
+use Rattle.broker_top.specs.declared.input.Unread.TheVariants.{TooLarge, Fault, NoMemory}
 use Rattle.broker_top.specs.declared.input.Turn as turn
 use Rattle.broker_top.specs.declared.input.Turn.TheVariants as turns
 
--- What was read of a source: all of it; one byte more than the limit; or the source failed.
-abbrev pub ReadsInput : ℕ → Input → Option (List ℕ) → Option (List ℕ) → ℕ → ℕ → Type 0
-ReadsInput limit (Whole bytes) left left' faults faults' = Takes left left' bytes.items × AtEnd left' × (length bytes.items ≤ limit)
-ReadsInput limit TooLarge left left' faults faults' = (front : List ℕ) × Takes left left' front × (length front ≡ limit + 1)
-ReadsInput limit Fault left left' faults faults' = faults < faults'
-ReadsInput limit NoMemory left left' faults faults' = ⊤
+-- the greatest input, in bytes
+abbrev pub input_limit : ℕ
+input_limit = 67108864
+
+-- This is all of the input: it was read to its end, and is within the limit.
+pub record IsWhole (input : List ℕ) (left left' : Option (List ℕ)) : Type 0 where
+  pub read : Takes left left' input
+  pub end : AtEnd left'
+  pub fits : length input ≤ input_limit
+
+abbrev pub too_large_text : List ℕ
+too_large_text = codes "fault: input too large\n"
+
+-- The input has a byte too many, which was read.
+pub record IsTooLarge (text : List ℕ) (left left' : Option (List ℕ)) : Type 0 where
+  pub front : List ℕ
+  pub read : Takes left left' front
+  pub large : length front ≡ input_limit + 1
+  pub told : text ≡ too_large_text
+
+-- Why a source was not read whole: one byte more than the limit was read, or the source failed.
+abbrev pub LeavesUnread : ℕ → Unread → Option (List ℕ) → Option (List ℕ) → ℕ → ℕ → Type 0
+LeavesUnread limit TooLarge left left' faults faults' = (front : List ℕ) × Takes left left' front × (length front ≡ limit + 1)
+LeavesUnread limit Fault left left' faults faults' = faults < faults'
+LeavesUnread limit NoMemory left left' faults faults' = ⊤
 
 -- One read: some bytes came, at least one and at most so many, and are kept; or nothing is left.
 abbrev pub ReadsTurn : ℕ → turn.Turn → Option (List ℕ) → Option (List ℕ) → List ℕ → List ℕ → Type 0

@@ -1,5 +1,6 @@
 -- what of an input is run, and why an input is not
-use Rattle.std.specs.Prelude.{◌≡◌, ℕ, ◌+◌, ◌&&◌, Bool, true, false, cond, nat_le, if◌then◌else◌, Option, Some, None, List, [], ◌∷◌, Result, Ok, Err}
+use Rattle.std.specs.Prelude.{◌≡◌, ℕ, ◌+◌, ◌&&◌, Bool, true, false, not, cond, is_some, nat_le, if◌then◌else◌, Option, Some, None, List, [], ◌∷◌, Result, Ok, Err}
+use Rattle.std.specs.List.{list_all}
 use Rattle.std.specs.Str.{bytes_eq}
 use Rattle.acts_core.specs.Table.{most_entries}
 use Rattle.acts_core.specs.declared.queues.Policy.{Policy}
@@ -7,6 +8,7 @@ use Rattle.acts_core.specs.declared.queues.Policy.TheVariants as policy
 use Rattle.defs_read.specs.Causes.{fault_of}
 use Rattle.defs_read.specs.Defined.{Defined}
 use Rattle.defs_read.specs.Values.{defs_of}
+use Rattle.defs_read.specs.declared.defs.ConsumerDef.{ConsumerDef}
 use Rattle.defs_read.specs.declared.defs.QueueKind.{QueueKind}
 use Rattle.defs_read.specs.declared.defs.QueueKind.TheVariants.{Standard, Priority, Sorted, LastValue}
 use Rattle.defs_read.specs.declared.faults.DefsFault.{DefsFault}
@@ -34,7 +36,7 @@ pub record Lines : Type 0 where
 abbrev pub lines_in : Job → Lines
 lines_in job = record { queue = job.queue; actor = job.actor; ops = job.ops.items }
 
--- What is built: one standard queue with the policy NONE
+-- What is built: one standard queue with the policy NONE, whose consumers have no selector
 
 abbrev pub is_standard : QueueKind → Bool
 is_standard Standard = true
@@ -49,9 +51,12 @@ is_none policy.FlowControl = false
 is_none policy.FlowToDisk = false
 is_none policy.Reject = false
 
+abbrev pub wants_all : ConsumerDef → Bool
+wants_all consumer = not (is_some consumer.selector)
+
 abbrev pub is_built : List Defined → Bool
 is_built [] = false
-is_built (q ∷ []) = is_standard q.kind && is_none q.limits.policy
+is_built (q ∷ []) = is_standard q.kind && is_none q.limits.policy && list_all wants_all q.consumers
 is_built (q ∷ r ∷ qs) = false
 
 -- and the lines of one actor, that of the first line, which put, take, acknowledge or release

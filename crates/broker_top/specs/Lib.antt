@@ -6,4 +6,8 @@ pub mod Faults
 pub mod Text
 pub mod Input
 pub mod Codes
+pub mod Words
+pub mod CommandLine
+pub mod Select
 pub mod Ends
+pub mod Unread

@@ -26,7 +26,7 @@ pub enum InputFault {
 }
 
 /// The name of a cause for which definitions are refused.
-fn defs_cause(cause: DefsFault) -> &'static str
+pub(crate) fn defs_cause(cause: DefsFault) -> &'static str
     ensures { result.now ≡ defs_cause cause }
 {
     match cause {
@@ -36,6 +36,7 @@ fn defs_cause(cause: DefsFault) -> &'static str
         DefsFault::MissingField => "MissingField",
         DefsFault::FloatNumber => "FloatNumber",
         DefsFault::BadValue => "BadValue",
+        DefsFault::BadSelector { .. } => "BadSelector",
         DefsFault::DoubleName => "DoubleName",
         DefsFault::TooManyConsumers => "TooManyConsumers",
         DefsFault::NoMemory => "NoMemory",

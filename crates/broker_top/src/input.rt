@@ -1,16 +1,17 @@
 //! Reads the whole input, up to a limit.
-ghost use Rattle.std.specs.Prelude.{◌≡◌, ◌<◌, ◌≤◌, ◌^◌, length, IfOk, vec_len};
-ghost use Rattle.broker_top.specs.Input.{ReadsInput, ReadsTurn};
+ghost use Rattle.std.specs.Prelude.{◌≡◌, ◌<◌, ◌≤◌, length, IfErr, IfOk, vec_len};
+ghost use Rattle.broker_top.specs.Input.{IsWhole, LeavesUnread, ReadsTurn, input_limit};
 
 use outside_io::Source;
 use std::alloc::{AllocError, Global};
 
-/// What came of reading the input.
-#[derive(Debug, Drop)]
-pub enum Input {
-    /// All of it, within the limit.
-    Whole(Vec<u8>),
-    /// It has a byte more than the limit.
+/// The greatest input, in bytes.
+pub const INPUT_LIMIT: usize = 67_108_864;
+
+/// Why an input was not read whole.
+#[derive(Clone, Copy, Debug, PartialEq, Eq)]
+pub(crate) enum Unread {
+    /// It has more than [`INPUT_LIMIT`] bytes.
     TooLarge,
     /// The source failed.
     Fault,
@@ -22,25 +23,25 @@ pub enum Input {
 const CHUNK: usize = 65_536;
 
 /// Reads to the end of the source, or to the byte after the limit. Each turn takes a byte at least.
-pub fn read_input<S: Source>(alloc: Global, source: &mut S, limit: usize) -> Input
-    requires { limit < 2 ^ 63 }
-    ensures told { ReadsInput limit result (S.left source.old) (S.left source.new) (S.faults source.old) (S.faults source.new) }
+pub(crate) fn read_input<S: Source>(alloc: Global, source: &mut S) -> Result<Vec<u8>, Unread>
+    ensures whole { IfOk result (λ bytes. IsWhole bytes.items (S.left source.old) (S.left source.new)) }
     ensures faults { S.faults source.old ≤ S.faults source.new }
+    ensures unread { IfErr result (λ unread. LeavesUnread input_limit unread (S.left source.old) (S.left source.new) (S.faults source.old) (S.faults source.new)) }
 {
     let Ok(mut chunk) = zeros(alloc, CHUNK) else {
-        return Input::NoMemory;
+        return Err(Unread::NoMemory);
     };
     let mut kept = Vec::new(alloc);
-    'reading: while kept.len() <= limit {
-        let room = CHUNK.min(limit + 1 - kept.len());
+    'reading: while kept.len() <= INPUT_LIMIT {
+        let room = CHUNK.min(INPUT_LIMIT + 1 - kept.len());
         match read_turn(source, &mut chunk[..room], &mut kept) {
             Turn::More => {}
-            Turn::End => return Input::Whole(kept),
-            Turn::Fault => return Input::Fault,
-            Turn::NoMemory => return Input::NoMemory,
+            Turn::End => return Ok(kept),
+            Turn::Fault => return Err(Unread::Fault),
+            Turn::NoMemory => return Err(Unread::NoMemory),
         }
     }
-    Input::TooLarge
+    Err(Unread::TooLarge)
 }
 
 /// So many zeros.

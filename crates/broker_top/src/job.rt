@@ -7,13 +7,13 @@ ghost use Rattle.script_read.specs.Lines.{lines_of, numbered};
 ghost use Rattle.script_read.specs.Phases.{actors_in, phases_in, phases_of};
 ghost use Rattle.script_read.specs.Scripts.{script_of};
 ghost use Rattle.script_read.specs.declared.lines.Line.{Line};
-ghost use Rattle.broker_top.specs.Job.{GivesJob, actor_after, first_actor, first_in, first_name, first_unbuilt, input_says, is_built, is_run, lines_by, lines_in, too_many, unbuilt, with_script};
+ghost use Rattle.broker_top.specs.Job.{GivesJob, actor_after, first_actor, first_in, first_name, first_unbuilt, input_says, is_built, is_run, lines_by, lines_in, too_many, unbuilt, wants_all, with_script};
 ghost use Rattle.broker_top.specs.Running.{is_put, is_served, puts_in};
 ghost use Rattle.broker_top.specs.Simple.{is_simple, is_simple_phase};
 
 use crate::faults::InputFault;
 use acts_core::{Bytes, MOST_ENTRIES, NoMemory, Policy};
-use defs_read::{Defs, DefsFault, QueueKind, read_defs};
+use defs_read::{ConsumerDef, Defs, DefsFault, QueueKind, read_defs};
 use script_read::{
     Line, LineFault, Op, Phase, Script, What, first_line, has_nothing, read_line, read_script,
 };
@@ -51,13 +51,22 @@ fn is_put(what: &What) -> bool
     matches!(what, What::Put { .. })
 }
 
-/// Whether the queues are what is built: one standard queue with the policy NONE.
+/// Whether each of the consumers wants all messages: it has no selector.
+fn want_all(consumers: &[ConsumerDef]) -> bool
+    ensures { result ≡ list_all wants_all consumers.now }
+{
+    consumers.iter().all(|consumer| consumer.selector.is_none())
+}
+
+/// Whether the queues are what is built: one standard queue with the policy NONE, whose consumers want all messages.
 fn is_built(defs: &Defs) -> bool
     ensures { result ≡ is_built (queues_in defs.now) }
 {
     match defs.queues.as_slice() {
         [queue] => {
-            matches!(queue.kind, QueueKind::Standard) && queue.limits.policy == Policy::None
+            matches!(queue.kind, QueueKind::Standard)
+                && queue.limits.policy == Policy::None
+                && want_all(&queue.consumers)
         }
         _ => false,
     }

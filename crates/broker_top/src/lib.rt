@@ -7,13 +7,17 @@ mod input;
 mod job;
 mod run;
 mod running;
+mod select;
 mod status;
+mod telling;
 mod text;
 mod top;
+mod words;
 
 pub use faults::InputFault;
+pub use input::INPUT_LIMIT;
 pub use status::Status;
-pub use top::{INPUT_LIMIT, run_command};
+pub use top::{run_command, select_command};
 
 #[cfg(test)]
 mod tests;

@@ -1,4 +1,4 @@
-use crate::{INPUT_LIMIT, InputFault, Status, run_command};
+use crate::{INPUT_LIMIT, InputFault, Status, run_command, select_command};
 use acts_core::Bytes;
 use outside_io::{MemorySink, MemorySource};
 use std::alloc::{AllocError, Global};
@@ -133,6 +133,22 @@ const RUNS: &[(&[&str], Status, &str)] = &[
         "fault: line 1: NotBuilt\n",
     ),
     (
+        &[
+            "{\"queues\":[{\"name\":\"q\",\"consumers\":[{\"name\":\"c\",\"actor\":\"a\",\"selector\":\"a = 1\"}]}]}\n",
+            TAKE,
+        ],
+        Status::InputRefused,
+        "fault: line 1: NotBuilt\n",
+    ),
+    (
+        &[
+            "\n{\"queues\":[{\"name\":\"q\",\"consumers\":[{\"name\":\"c\",\"actor\":\"a\",\"selector\":\"a = 1.5\"}]}]}\n",
+            TAKE,
+        ],
+        Status::InputRefused,
+        "fault: line 2: BadSelector at 4: FloatLiteral\n",
+    ),
+    (
         &[Q, TAKE, "\n", REST],
         Status::InputRefused,
         "fault: line 4: NotBuilt\n",
@@ -200,9 +216,17 @@ fn put_of(alloc: Global, count: usize) -> Result<Vec<u8>, AllocError> {
     Ok(bytes)
 }
 
-// Runs the words over the input, with calls that fail and room for the output; compares the end.
+// The call of a test.
+#[derive(Clone, Copy)]
+enum Call {
+    Run,
+    Select,
+}
+
+// Calls with the words over the input, with calls that fail and room for the output; compares the end.
 fn check(
     rt: &(impl Abort + AllocGlobal),
+    call: Call,
     words: &[&str],
     input: Vec<u8>,
     failing: (&[u64], &[u64]),
@@ -218,7 +242,10 @@ fn check(
     let writes = failing.1.to_vec(alloc)?;
     let mut source = MemorySource::of(Bytes::from_vec(input), reads);
     let mut sink = MemorySink::of(alloc, room, writes)?;
-    let status = run_command(alloc, &given, &mut source, &mut sink);
+    let status = match call {
+        Call::Run => run_command(alloc, &given, &mut source, &mut sink),
+        Call::Select => select_command(alloc, &given, &mut source, &mut sink),
+    };
     assert_eq!(rt; status, want.0);
     assert_eq!(rt; sink.bytes(), want.1.as_bytes());
     Ok(())
@@ -228,14 +255,114 @@ fn check(
 fn runs_and_their_texts(rt: HostRuntime) -> Result<(), Fail> {
     for &(parts, status, text) in RUNS {
         let input = joined(rt.alloc(), parts)?;
-        check(&rt, &["run"], input, (&[], &[]), 1000, (status, text))?;
+        let want = (status, text);
+        check(&rt, Call::Run, &["run"], input, (&[], &[]), 1000, want)?;
     }
     Ok(())
 }
 
-// Words; reads and writes that fail; room for the output; and what a run ends with.
-const FAULTS: &[(&[&str], &[u64], &[u64], u64, Status, &str)] = &[
+// A selector, messages one after the other, and what the selection ends with.
+const SELECTIONS: &[(&str, &[&str], Status, &str)] = &[
     (
+        "a = 1 OR b = 2",
+        &[
+            "{\"id\":1,\"headers\":{\"a\":1}}\n",
+            "{\"id\":2,\"headers\":{\"a\":2}}\n",
+        ],
+        Status::Done,
+        "true\nunknown\n",
+    ),
+    (
+        "x LIKE 'a!_%' ESCAPE '!'",
+        &[
+            "{\"id\":1,\"headers\":{\"x\":\"a_b\"}}\n",
+            "{\"id\":2,\"headers\":{\"x\":\"axb\"}}",
+        ],
+        Status::Done,
+        "true\nfalse\n",
+    ),
+    (
+        "NOT (a > 1 AND b IS NULL)",
+        &[
+            "{\"id\":1,\"headers\":{\"a\":2}}\n",
+            "{\"id\":2}\n",
+            "{\"id\":3,\"headers\":{\"a\":2,\"b\":0}}\n",
+        ],
+        Status::Done,
+        "false\nunknown\ntrue\n",
+    ),
+    (
+        "9223372036854775807 + 1 > 0",
+        &["{\"id\":1}"],
+        Status::Done,
+        "unknown\n",
+    ),
+    // Each word that is a text may be a selector.
+    ("help", &["{\"id\":1}"], Status::Done, "unknown\n"),
+    // Blank lines are counted and passed over.
+    (
+        "TRUE",
+        &["\n", " \t\r\n", "{\"id\":1}\n", "\n", "{\"id\":1}\n", " "],
+        Status::Done,
+        "true\ntrue\n",
+    ),
+    ("TRUE", &[], Status::Done, ""),
+    (
+        "TRUE",
+        &[
+            "\n",
+            "\n",
+            "{\"id\":1}\n",
+            "{\"id\":2,\"queue\":\"q\"}\n",
+            "[]",
+        ],
+        Status::InputRefused,
+        "fault: line 4: UnknownField\n",
+    ),
+    (
+        "TRUE",
+        &["{\"id\":1}\n", "{\"id\":2,\"headers\":{\"a\":1.5}}\n"],
+        Status::InputRefused,
+        "fault: line 2: FloatNumber\n",
+    ),
+    // The selector is tested before the lines.
+    (
+        "a = 1.5",
+        &["[]"],
+        Status::InputRefused,
+        "fault: selector at 4: FloatLiteral\n",
+    ),
+    (
+        "a > -9223372036854775808",
+        &[],
+        Status::InputRefused,
+        "fault: selector at 5: IntRange\n",
+    ),
+    (
+        "NOT",
+        &[],
+        Status::InputRefused,
+        "fault: selector at 3: Unexpected\n",
+    ),
+];
+
+#[test]
+fn selections_and_their_texts(rt: HostRuntime) -> Result<(), Fail> {
+    for &(selector, parts, status, text) in SELECTIONS {
+        for call in [Call::Run, Call::Select] {
+            let input = joined(rt.alloc(), parts)?;
+            let words = ["select", selector];
+            let want = (status, text);
+            check(&rt, call, &words, input, (&[], &[]), 1000, want)?;
+        }
+    }
+    Ok(())
+}
+
+// A call and its words; reads and writes that fail; room for the output; and what the call ends with.
+const FAULTS: &[(Call, &[&str], &[u64], &[u64], u64, Status, &str)] = &[
+    (
+        Call::Run,
         &["run", "a", "b"],
         &[],
         &[],
@@ -243,8 +370,17 @@ const FAULTS: &[(&[&str], &[u64], &[u64], u64, Status, &str)] = &[
         Status::WordsRefused,
         "fault: words\n",
     ),
-    (&[], &[], &[], 1000, Status::WordsRefused, "fault: words\n"),
     (
+        Call::Run,
+        &[],
+        &[],
+        &[],
+        1000,
+        Status::WordsRefused,
+        "fault: words\n",
+    ),
+    (
+        Call::Run,
         &["Run"],
         &[],
         &[],
@@ -253,6 +389,7 @@ const FAULTS: &[(&[&str], &[u64], &[u64], u64, Status, &str)] = &[
         "fault: words\n",
     ),
     (
+        Call::Run,
         &["run", ""],
         &[],
         &[],
@@ -261,6 +398,7 @@ const FAULTS: &[(&[&str], &[u64], &[u64], u64, Status, &str)] = &[
         "fault: words\n",
     ),
     (
+        Call::Run,
         &["run"],
         &[0],
         &[],
@@ -269,6 +407,7 @@ const FAULTS: &[(&[&str], &[u64], &[u64], u64, Status, &str)] = &[
         "fault: read\n",
     ),
     (
+        Call::Run,
         &["run"],
         &[1],
         &[],
@@ -276,16 +415,117 @@ const FAULTS: &[(&[&str], &[u64], &[u64], u64, Status, &str)] = &[
         Status::ReadFault,
         "fault: read\n",
     ),
-    (&["run"], &[], &[0], 1000, Status::WriteFault, ""),
-    (&["run"], &[], &[], 10, Status::WriteFault, "a 2 ok 7\na"),
-    (&["no"], &[], &[0], 1000, Status::WriteFault, ""),
+    (Call::Run, &["run"], &[], &[0], 1000, Status::WriteFault, ""),
+    (
+        Call::Run,
+        &["run"],
+        &[],
+        &[],
+        10,
+        Status::WriteFault,
+        "a 2 ok 7\na",
+    ),
+    (Call::Run, &["no"], &[], &[0], 1000, Status::WriteFault, ""),
+    (
+        Call::Run,
+        &["select"],
+        &[],
+        &[],
+        1000,
+        Status::WordsRefused,
+        "fault: words\n",
+    ),
+    (
+        Call::Run,
+        &["select", ""],
+        &[],
+        &[],
+        1000,
+        Status::WordsRefused,
+        "fault: words\n",
+    ),
+    (
+        Call::Run,
+        &["select", "-1 < a"],
+        &[],
+        &[],
+        1000,
+        Status::WordsRefused,
+        "fault: words\n",
+    ),
+    (
+        Call::Run,
+        &["sel", "TRUE"],
+        &[],
+        &[],
+        1000,
+        Status::WordsRefused,
+        "fault: words\n",
+    ),
+    (
+        Call::Select,
+        &["select", "TRUE", "b"],
+        &[],
+        &[],
+        1000,
+        Status::WordsRefused,
+        "fault: words\n",
+    ),
+    (
+        Call::Select,
+        &["run"],
+        &[],
+        &[],
+        1000,
+        Status::WordsRefused,
+        "fault: words\n",
+    ),
+    (
+        Call::Select,
+        &["select", "TRUE"],
+        &[0],
+        &[],
+        1000,
+        Status::ReadFault,
+        "fault: read\n",
+    ),
+    // A selector that is refused is told of though the source would fail.
+    (
+        Call::Select,
+        &["select", "NOT"],
+        &[0],
+        &[],
+        1000,
+        Status::InputRefused,
+        "fault: selector at 3: Unexpected\n",
+    ),
+    (
+        Call::Select,
+        &["select", "NOT"],
+        &[],
+        &[0],
+        1000,
+        Status::WriteFault,
+        "",
+    ),
+    // The first line of the input is no message.
+    (
+        Call::Select,
+        &["select", "TRUE"],
+        &[],
+        &[],
+        10,
+        Status::WriteFault,
+        "fault: lin",
+    ),
 ];
 
 #[test]
 fn refusals_and_faults(rt: HostRuntime) -> Result<(), Fail> {
-    for &(words, reads, writes, room, status, text) in FAULTS {
+    for &(call, words, reads, writes, room, status, text) in FAULTS {
         let input = joined(rt.alloc(), &[Q, PUT_7, TAKE, ACK_7])?;
-        check(&rt, words, input, (reads, writes), room, (status, text))?;
+        let want = (status, text);
+        check(&rt, call, words, input, (reads, writes), room, want)?;
     }
     Ok(())
 }
@@ -297,15 +537,16 @@ fn greatest_inputs(rt: HostRuntime) -> Result<(), Fail> {
     // The greatest input, and one byte more.
     let input = filled(alloc, b'x', INPUT_LIMIT)?;
     let want = (Status::InputRefused, "fault: line 1: LineTooLong\n");
-    check(&rt, &["run"], input, (&[], &[]), 1000, want)?;
+    check(&rt, Call::Run, &["run"], input, (&[], &[]), 1000, want)?;
     let input = filled(alloc, b'x', INPUT_LIMIT + 1)?;
     let want = (Status::InputRefused, "fault: input too large\n");
-    check(&rt, &["run"], input, (&[], &[]), 1000, want)?;
+    check(&rt, Call::Run, &["run"], input, (&[], &[]), 1000, want)?;
 
     // The longest line, and one byte more.
     let want = (Status::Done, "a 2 ok 7\nqueue q 1 1048539\nentry 7\n");
     check(
         &rt,
+        Call::Run,
         &["run"],
         put_of(alloc, 1_048_523)?,
         (&[], &[]),
@@ -315,6 +556,7 @@ fn greatest_inputs(rt: HostRuntime) -> Result<(), Fail> {
     let want = (Status::InputRefused, "fault: line 2: LineTooLong\n");
     check(
         &rt,
+        Call::Run,
         &["run"],
         put_of(alloc, 1_048_524)?,
         (&[], &[]),
@@ -324,7 +566,15 @@ fn greatest_inputs(rt: HostRuntime) -> Result<(), Fail> {
 
     // One put too many.
     let want = (Status::InputRefused, "fault: line 524290: TooManyEntries\n");
-    check(&rt, &["run"], puts(alloc, 524_289)?, (&[], &[]), 1000, want)
+    check(
+        &rt,
+        Call::Run,
+        &["run"],
+        puts(alloc, 524_289)?,
+        (&[], &[]),
+        1000,
+        want,
+    )
 }
 
 #[test]

@@ -1,87 +1,26 @@
-//! The top call.
-ghost use Rattle.std.specs.Prelude.{◌≡◌, ◌↔◌, IsTrue, IfOk, map, string_bytes};
-ghost use Rattle.broker_top.specs.Ends.{Ends, IsRun, Refuses, Tells};
-ghost use Rattle.broker_top.specs.Faults.{fault_text};
+//! The top calls.
+ghost use Rattle.std.specs.Prelude.{map, string_bytes};
+ghost use Rattle.broker_top.specs.Ends.{Ends, TaskEnds};
+ghost use Rattle.broker_top.specs.Words.{asked, run, selecting};
 
-use crate::faults::InputFault;
-use crate::input::{Input, read_input};
+use crate::input::read_input;
 use crate::job::{Job, read_job};
 use crate::run::run;
+use crate::select::select_messages;
 use crate::status::Status;
+use crate::telling::{refuse, refuse_words, tell, tell_no_memory, tell_unread};
+use crate::words::{Asked, is_listed, is_select, read_words};
 use acts_core::NoMemory;
-use outside_io::{Sink, Source, write_all};
+use outside_io::{Sink, Source};
 use std::alloc::Global;
 
-/// The greatest input, in bytes.
-pub const INPUT_LIMIT: usize = 67_108_864;
-
-/// Whether the words are the one word `run`.
-fn is_run(words: &[String]) -> bool
-    ensures { IsTrue result ↔ IsRun (map string_bytes words.now) }
+/// Reads a script, runs it, and writes the text of the run.
+fn run_script<S: Source, K: Sink>(alloc: Global, input: &mut S, out: &mut K) -> Status
+    ensures { TaskEnds run result (S.left input.old) (S.left input.new) (K.written out.old) (K.written out.new) (S.faults input.old) (S.faults input.new) (K.faults out.old) (K.faults out.new) }
 {
-    match words {
-        [word] => word.as_str() == "run",
-        _ => false,
-    }
-}
-
-/// Writes the text of a status, and answers the status, or that the sink failed.
-fn tell<K: Sink>(out: &mut K, status: Status, text: &[u8]) -> Status
-    ensures { Tells result status text.now (K.written out.old) (K.written out.new) (K.faults out.old) (K.faults out.new) }
-{
-    match write_all(out, text) {
-        Ok(()) => status,
-        Err(_) => Status::WriteFault,
-    }
-}
-
-/// Makes the text of a fault: the line, and the name of its cause.
-fn fault_text(alloc: Global, fault: InputFault) -> Result<String, NoMemory>
-    ensures { IfOk result (λ text. string_bytes text ≡ fault_text fault) }
-{
-    let line = fault.line();
-    let cause = fault.cause();
-    match format!(in alloc; "fault: line {line}: {cause}\n") {
-        Ok(text) => Ok(text),
-        Err(_) => Err(NoMemory),
-    }
-}
-
-/// Tells of the fault for which the input is refused.
-fn refuse<K: Sink>(alloc: Global, out: &mut K, fault: InputFault) -> Status
-    ensures { Refuses fault result (K.written out.old) (K.written out.new) (K.faults out.old) (K.faults out.new) }
-{
-    if matches!(fault, InputFault::NoMemory) {
-        return tell(out, Status::NoMemory, b"fault: memory\n");
-    }
-    match fault_text(alloc, fault) {
-        Ok(text) => tell(out, Status::InputRefused, text.as_bytes()),
-        Err(NoMemory) => tell(out, Status::NoMemory, b"fault: memory\n"),
-    }
-}
-
-/// Does all that the program does for these words of its command line: it reads the whole input, tests
-/// every line, runs the lines, and writes the text of the run, or a fault line.
-///
-/// docs/SCRIPT.md, "Statuses", says when each status comes. The input has at most [`INPUT_LIMIT`] bytes.
-pub fn run_command<S: Source, K: Sink>(
-    alloc: Global,
-    words: &[String],
-    input: &mut S,
-    out: &mut K,
-) -> Status
-    ensures { Ends result (map string_bytes words.now) (S.left input.old) (S.left input.new) (K.written out.old) (K.written out.new) (S.faults input.old) (S.faults input.new) (K.faults out.old) (K.faults out.new) }
-{
-    if !is_run(words) {
-        return tell(out, Status::WordsRefused, b"fault: words\n");
-    }
-    let bytes = match read_input(alloc, input, INPUT_LIMIT) {
-        Input::Whole(bytes) => bytes,
-        Input::TooLarge => {
-            return tell(out, Status::InputRefused, b"fault: input too large\n");
-        }
-        Input::Fault => return tell(out, Status::ReadFault, b"fault: read\n"),
-        Input::NoMemory => return tell(out, Status::NoMemory, b"fault: memory\n"),
+    let bytes = match read_input(alloc, input) {
+        Ok(bytes) => bytes,
+        Err(unread) => return tell_unread(out, unread),
     };
     let Job { queue, actor, ops } = match read_job(alloc, &bytes) {
         Ok(job) => job,
@@ -90,6 +29,57 @@ pub fn run_command<S: Source, K: Sink>(
     drop(bytes);
     match run(alloc, &queue, &actor, ops) {
         Ok(text) => tell(out, Status::Done, &text),
-        Err(NoMemory) => tell(out, Status::NoMemory, b"fault: memory\n"),
+        Err(NoMemory) => tell_no_memory(out),
+    }
+}
+
+/// Does all that the program does for these words of its command line: for `run` it reads the whole input, tests every
+/// line, runs the lines, and writes the text of the run, or a fault line; for `select` and a text it does what
+/// [`select_command`] does.
+///
+/// docs/SCRIPT.md, "Statuses", says when each status comes. The input has at most [`INPUT_LIMIT`] bytes.
+///
+/// [`INPUT_LIMIT`]: crate::INPUT_LIMIT
+pub fn run_command<S: Source, K: Sink>(
+    alloc: Global,
+    words: &[String],
+    input: &mut S,
+    out: &mut K,
+) -> Status
+    ensures { Ends (asked (map string_bytes words.now)) result (S.left input.old) (S.left input.new) (K.written out.old) (K.written out.new) (S.faults input.old) (S.faults input.new) (K.faults out.old) (K.faults out.new) }
+{
+    if !is_listed(words) {
+        return refuse_words(out);
+    }
+    match read_words(alloc, words) {
+        Ok(Asked::Run) => run_script(alloc, input, out),
+        Ok(Asked::Select(text)) => select_messages(alloc, text, input, out),
+        Err(NoMemory) => tell_no_memory(out),
+    }
+}
+
+/// Tells of messages what a selector is, for the words `select` and the selector's text: it tests the text, reads the
+/// whole input, tests every line, and writes `true`, `false` or `unknown` for each message, or a fault line. All other
+/// words are refused.
+///
+/// docs/SCRIPT.md has the lines under "The command `select`", and says under "Statuses" when each status comes. The input
+/// has at most [`INPUT_LIMIT`] bytes.
+///
+/// [`INPUT_LIMIT`]: crate::INPUT_LIMIT
+pub fn select_command<S: Source, K: Sink>(
+    alloc: Global,
+    words: &[String],
+    input: &mut S,
+    out: &mut K,
+) -> Status
+    ensures { Ends (selecting (asked (map string_bytes words.now))) result (S.left input.old) (S.left input.new) (K.written out.old) (K.written out.new) (S.faults input.old) (S.faults input.new) (K.faults out.old) (K.faults out.new) }
+{
+    if !is_select(words) {
+        return refuse_words(out);
+    }
+    match read_words(alloc, words) {
+        Ok(Asked::Select(text)) => select_messages(alloc, text, input, out),
+        Ok(Asked::Run) => unreachable!(),
+        Err(NoMemory) => tell_no_memory(out),
     }
 }

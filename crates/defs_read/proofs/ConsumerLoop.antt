@@ -4,8 +4,8 @@ use Rattle.std.proofs.lemmas.List.{append-nil, length_push}
 use Rattle.serde_json.specs.Data.{Data, Items, no_items, item}
 use Rattle.fields_read.specs.Forms.{first_of}
 use Rattle.defs_read.specs.Causes.{consumer_causes, consumers_fault, name_in, names_in}
-use Rattle.defs_read.specs.Steps.{Refuses, consumer_of}
-use Rattle.defs_read.specs.Values.{consumers_of}
+use Rattle.defs_read.specs.Steps.{Refuses}
+use Rattle.defs_read.specs.Values.{consumer_of, consumers_of}
 use Rattle.defs_read.specs.declared.defs.ConsumerDef.{ConsumerDef}
 use Rattle.defs_read.specs.declared.faults.DefsFault.{DefsFault}
 use Rattle.defs_read.proofs.Lists.{stops, passes}

@@ -2,4 +2,6 @@ pub mod Lists
 pub mod ConsumerLoop
 pub mod QueueLoop
 pub mod QueueCauses
-pub mod Few
+pub mod ConsumerCauses
+pub mod Masks
+pub mod Bounds

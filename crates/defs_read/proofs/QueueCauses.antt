@@ -22,7 +22,7 @@ use Rattle.defs_read.specs.declared.tables.QueueType.{QueueType}
 use Rattle.defs_read.specs.declared.tables.QueueType.TheVariants.{Standard, Priority, Sorted, LastValue}
 use Rattle.defs_read.proofs.Lists.{front_refuses, front_passes}
 
-passed : (cause : Option FieldFault) → passes_unless cause ≡ Ok tt → cause ≡ None
+pub passed : (cause : Option FieldFault) → passes_unless cause ≡ Ok tt → cause ≡ None
 passed None is = refl
 passed (Some fault) is = cc
 

@@ -1,5 +1,5 @@
 -- the causes that definitions are refused for, in their order
-use Rattle.std.specs.Prelude.{ℕ, List, [], ◌∷◌, ◌++◌, length, Bool, not, nat_le, nat_lt, Option, Some, None, is_some, option_map, unwrap_or}
+use Rattle.std.specs.Prelude.{ℕ, List, [], ◌∷◌, ◌++◌, length, Bool, not, nat_le, nat_lt, Option, Some, None, is_some, option_map, option_and_then, unwrap_or}
 use Rattle.std.specs.List.{list_any}
 use Rattle.std.specs.Str.{bytes_eq}
 use Rattle.serde_json.specs.Data.{Data, Items, no_items, item}
@@ -8,12 +8,14 @@ use Rattle.fields_read.specs.Json.{json_of}
 use Rattle.fields_read.specs.Forms.{first_of}
 use Rattle.fields_read.specs.Fields.{text_at, items_at}
 use Rattle.fields_read.specs.Faults.{cause_if, presence_fault, values_fault, field_fault}
-use Rattle.fields_read.specs.declared.fields.Field.TheVariants.{Queues, Name, Kind, Consumers, Actor}
+use Rattle.fields_read.specs.declared.fields.Field.TheVariants.{Queues, Name, Kind, Consumers, Selector}
 use Rattle.fields_read.specs.declared.faults.FieldFault.{FieldFault}
 use Rattle.fields_read.specs.declared.faults.FieldFault.TheVariants as field
-use Rattle.defs_read.specs.Tables.{type_named, later_fields, queue_fields, required_fields, consumer_fields, line_fields}
+use Rattle.selector_read.specs.Selectors.{Outcome, reads, refused}
+use Rattle.selector_read.specs.Reading.{selector_of}
+use Rattle.defs_read.specs.Tables.{type_named, later_fields, queue_fields, required_fields, consumer_fields, later_consumer_fields, required_consumer_fields, line_fields}
 use Rattle.defs_read.specs.declared.faults.DefsFault.{DefsFault}
-use Rattle.defs_read.specs.declared.faults.DefsFault.TheVariants.{LineTooLong, NotJson, UnknownField, MissingField, FloatNumber, BadValue, DoubleName, TooManyConsumers}
+use Rattle.defs_read.specs.declared.faults.DefsFault.TheVariants.{LineTooLong, NotJson, UnknownField, MissingField, FloatNumber, BadValue, BadSelector, DoubleName, TooManyConsumers}
 
 -- the greatest number of bytes of a line
 abbrev pub longest_line : ℕ
@@ -40,14 +42,24 @@ name_in d = unwrap_or (text_at Name d) []
 abbrev pub is_among : List ℕ → List (List ℕ) → Bool
 is_among name names = list_any (bytes_eq name) names
 
+-- a text that is no selector is told of by its first fault
+abbrev pub of_outcome : Outcome → Option DefsFault
+of_outcome (reads t) = None
+of_outcome (refused at kind) = Some (BadSelector at kind)
+
+-- the cause of a consumer's selector; where it has none there is none
+abbrev pub selector_fault : Data → Option DefsFault
+selector_fault d = option_and_then (λ s. of_outcome (selector_of s)) (text_at Selector d)
+
 -- the causes of a consumer, after consumers with these names
 abbrev pub consumer_causes : List (List ℕ) → Data → List (Option DefsFault)
 consumer_causes names d =
     cause_if (not (is_object d)) BadValue
-    ∷ option_map of_field (presence_fault consumer_fields consumer_fields d)
+    ∷ option_map of_field (presence_fault consumer_fields required_consumer_fields d)
     ∷ option_map of_field (field_fault Name d)
     ∷ cause_if (is_among (name_in d) names) DoubleName
-    ∷ option_map of_field (field_fault Actor d)
+    ∷ option_map of_field (values_fault later_consumer_fields d)
+    ∷ selector_fault d
     ∷ cause_if (nat_le most_consumers (length names)) TooManyConsumers
     ∷ []
 

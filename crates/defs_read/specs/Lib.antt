@@ -4,3 +4,5 @@ pub mod Causes
 pub mod Values
 pub mod Reading
 pub mod Steps
+pub mod Allowed
+pub mod Slips

@@ -5,7 +5,7 @@ use Rattle.defs_read.specs.Defined.{queues_in}
 use Rattle.defs_read.specs.Values.{defs_of}
 use Rattle.defs_read.specs.declared.defs.Defs.{Defs}
 use Rattle.defs_read.specs.declared.faults.DefsFault.{DefsFault}
-use Rattle.defs_read.specs.declared.faults.DefsFault.TheVariants.{LineTooLong, NotJson, UnknownField, MissingField, FloatNumber, BadValue, DoubleName, TooManyConsumers, NoMemory}
+use Rattle.defs_read.specs.declared.faults.DefsFault.TheVariants.{LineTooLong, NotJson, UnknownField, MissingField, FloatNumber, BadValue, BadSelector, DoubleName, TooManyConsumers, NoMemory}
 
 -- The line has this first cause. Want of memory may come in place of any.
 abbrev pub IsRefused : DefsFault → List ℕ → Type 0
@@ -16,6 +16,7 @@ IsRefused UnknownField line = fault_of line ≡ Some UnknownField
 IsRefused MissingField line = fault_of line ≡ Some MissingField
 IsRefused FloatNumber line = fault_of line ≡ Some FloatNumber
 IsRefused BadValue line = fault_of line ≡ Some BadValue
+IsRefused (BadSelector at kind) line = fault_of line ≡ Some (BadSelector at kind)
 IsRefused DoubleName line = fault_of line ≡ Some DoubleName
 IsRefused TooManyConsumers line = fault_of line ≡ Some TooManyConsumers
 

@@ -1,15 +1,13 @@
 -- what the steps of reading say: the first cause, or what was read
-use Rattle.std.specs.Prelude.{◌≡◌, ◌⊎◌, ℕ, List, [], ◌∷◌, ◌++◌, map, not, Option, Some, None, Result, MatchResult, option_map, unwrap_or}
+use Rattle.std.specs.Prelude.{◌≡◌, ◌⊎◌, ℕ, List, [], ◌∷◌, ◌++◌, map, not, Option, Some, None, Result, MatchResult, option_map}
 use denote.Ref.{Bor}
 use Rattle.indexmap.specs.IndexSet.{IndexSet}
 use Rattle.serde_json.specs.Data.{Data}
 use Rattle.fields_read.specs.Faults.{cause_if, presence_fault, field_fault, values_fault}
-use Rattle.fields_read.specs.Fields.{text_at}
 use Rattle.fields_read.specs.declared.fields.Field.{Field}
-use Rattle.fields_read.specs.declared.fields.Field.TheVariants.{Name, Actor}
+use Rattle.fields_read.specs.declared.fields.Field.TheVariants.{Name}
 use Rattle.defs_read.specs.Causes.{of_field, is_object, name_in, is_among}
 use Rattle.defs_read.specs.Tables.{later_fields, queue_fields, required_fields}
-use Rattle.defs_read.specs.declared.defs.ConsumerDef.{ConsumerDef}
 use Rattle.defs_read.specs.declared.tables.QueueType.{QueueType}
 use Rattle.defs_read.specs.declared.faults.DefsFault.{DefsFault}
 use Rattle.defs_read.specs.declared.faults.DefsFault.TheVariants.{BadValue, DoubleName, NoMemory}
@@ -47,7 +45,3 @@ typed_causes t names d =
     named_causes (queue_fields t) (required_fields t) names d
     ++ (option_map of_field (values_fault (later_fields t) d)
     ∷ [])
-
--- a consumer with this number
-abbrev pub consumer_of : ℕ → Data → ConsumerDef
-consumer_of n d = record { name = name_in d; actor = unwrap_or (text_at Actor d) []; number = n }

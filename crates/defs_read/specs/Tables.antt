@@ -2,7 +2,7 @@
 use Rattle.std.specs.Prelude.{ℕ, List, [], ◌∷◌, ◌++◌, Option, Some, None, codes, if◌then◌else◌}
 use Rattle.std.specs.Str.{bytes_eq}
 use Rattle.fields_read.specs.declared.fields.Field.{Field}
-use Rattle.fields_read.specs.declared.fields.Field.TheVariants.{Queues, Name, Kind, Priorities, SortKey, LvqKey, MaximumMessages, MaximumBytes, OverflowPolicy, Consumers, Actor}
+use Rattle.fields_read.specs.declared.fields.Field.TheVariants.{Queues, Name, Kind, Priorities, SortKey, LvqKey, MaximumMessages, MaximumBytes, OverflowPolicy, Consumers, Actor, Selector}
 use Rattle.defs_read.specs.declared.tables.QueueType.{QueueType}
 use Rattle.defs_read.specs.declared.tables.QueueType.TheVariants.{Standard, Priority, Sorted, LastValue}
 
@@ -32,9 +32,16 @@ required_fields Priority = Name ∷ []
 required_fields Sorted = Name ∷ SortKey ∷ []
 required_fields LastValue = Name ∷ []
 
--- a consumer has these, and all must stand
+-- the fields that a consumer may have behind its name, in order
+abbrev pub later_consumer_fields : List Field
+later_consumer_fields = Actor ∷ Selector ∷ []
+
 abbrev pub consumer_fields : List Field
-consumer_fields = Name ∷ Actor ∷ []
+consumer_fields = Name ∷ later_consumer_fields
+
+-- those of them that must stand
+abbrev pub required_consumer_fields : List Field
+required_consumer_fields = Name ∷ Actor ∷ []
 
 -- the whole line has this one
 abbrev pub line_fields : List Field

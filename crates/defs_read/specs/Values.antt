@@ -1,5 +1,5 @@
 -- what definitions say that have no cause; each field that is missing has its default
-use Rattle.std.specs.Prelude.{ℕ, ◌+◌, List, [], ◌∷◌, Option, Some, None, unwrap_or, codes, if◌then◌else◌}
+use Rattle.std.specs.Prelude.{ℕ, ◌+◌, List, [], ◌∷◌, Option, Some, None, option_and_then, unwrap_or, codes, if◌then◌else◌}
 use Rattle.std.specs.Str.{bytes_eq}
 use Rattle.acts_core.specs.declared.queues.Limits.{Limits}
 use Rattle.acts_core.specs.declared.queues.Policy.{Policy}
@@ -8,7 +8,10 @@ use Rattle.serde_json.specs.Data.{Data, Items, no_items, item}
 use Rattle.fields_read.specs.Json.{json_of}
 use Rattle.fields_read.specs.Forms.{count_items}
 use Rattle.fields_read.specs.Fields.{text_at, number_at, items_at}
-use Rattle.fields_read.specs.declared.fields.Field.TheVariants.{Queues, Kind, Priorities, SortKey, LvqKey, MaximumMessages, MaximumBytes, OverflowPolicy, Consumers, Actor}
+use Rattle.fields_read.specs.declared.fields.Field.TheVariants.{Queues, Kind, Priorities, SortKey, LvqKey, MaximumMessages, MaximumBytes, OverflowPolicy, Consumers, Actor, Selector}
+use Rattle.selector_read.specs.Trees.{Tree}
+use Rattle.selector_read.specs.Selectors.{Outcome, reads, refused}
+use Rattle.selector_read.specs.Reading.{selector_of}
 use Rattle.defs_read.specs.Defined.{Defined}
 use Rattle.defs_read.specs.Tables.{type_named}
 use Rattle.defs_read.specs.Causes.{name_in}
@@ -41,10 +44,23 @@ policy_named (Some s) = if bytes_eq s (codes "RING") then policy.Ring else (if b
 abbrev pub limits_of : Data → Limits
 limits_of d = record { policy = policy_named (text_at OverflowPolicy d); entries = number_at MaximumMessages d; bytes = number_at MaximumBytes d }
 
+-- the selector that a text is read as
+abbrev pub selector_in : Outcome → Option Tree
+selector_in (reads t) = Some t
+selector_in (refused at kind) = None
+
+-- the selector of a consumer, where it has one
+abbrev pub selector_at : Data → Option Tree
+selector_at d = option_and_then (λ s. selector_in (selector_of s)) (text_at Selector d)
+
+-- a consumer with this number
+abbrev pub consumer_of : ℕ → Data → ConsumerDef
+consumer_of n d = record { name = name_in d; actor = unwrap_or (text_at Actor d) []; number = n; selector = selector_at d }
+
 -- the consumers of a list, numbered from n
 abbrev pub consumers_of : ℕ → Items → List ConsumerDef
 consumers_of n no_items = []
-consumers_of n (item d ds) = record { name = name_in d; actor = unwrap_or (text_at Actor d) []; number = n } ∷ consumers_of (n + 1) ds
+consumers_of n (item d ds) = consumer_of n d ∷ consumers_of (n + 1) ds
 
 -- a queue whose consumers are numbered from n
 abbrev pub queue_of : ℕ → Data → Defined

@@ -4,6 +4,7 @@ ghost use Rattle.acts_core.specs.declared.queues.Policy.TheVariants as policy;
 ghost use Rattle.defs_read.specs.Defined.{defined};
 
 use acts_core::{Bytes, Limits, Policy};
+use selector_read::Selector;
 
 /// The queues of a run, in order of their definition: 1 to 16, with distinct names.
 #[derive(Debug, Drop)]
@@ -34,13 +35,14 @@ pub enum QueueKind {
     LastValue(Bytes),
 }
 
-/// A consumer: its name, the actor whose lines may name it, and its number among the consumers of all queues, from 0
-/// in order of their definition.
+/// A consumer: its name, the actor whose lines may name it, its number among the consumers of all queues, from 0 in
+/// order of their definition, and which messages it wants: without a selector all of them.
 #[derive(Debug, Drop)]
 pub struct ConsumerDef {
     pub name: Bytes,
     pub actor: Bytes,
     pub number: u32,
+    pub selector: Option<Selector>,
 }
 
 impl QueueDef {

@@ -1,5 +1,6 @@
 //! Why a line is no definitions.
 use fields_read::FieldFault;
+use selector_read::Kind;
 use thiserror::Error;
 
 /// Why a line is no definitions: the first cause, in the order that docs/SCRIPT.md gives. Want of memory may come in
@@ -24,6 +25,10 @@ pub enum DefsFault {
     /// A field may not have its value, or something is no object.
     #[error("BadValue")]
     BadValue,
+    /// The text of a field `selector` is no selector: its first fault, and the byte of the text at which it stands,
+    /// counted from 0 (docs/SELECTORS.md).
+    #[error("BadSelector at {at}: {kind}")]
+    BadSelector { at: u64, kind: Kind },
     /// Two queues, or two consumers, have one name; the second of them is at fault.
     #[error("DoubleName")]
     DoubleName,

@@ -9,15 +9,19 @@ mod faults;
 mod names;
 mod queues;
 mod reading;
+mod slips;
 mod tables;
 mod values;
 
 pub use defs::{ConsumerDef, Defs, QueueDef, QueueKind};
 pub use faults::DefsFault;
 pub use reading::read_defs;
+pub use slips::slip;
 
 /// The greatest number of bytes of a line, without its line feed.
 pub const LONGEST_LINE: usize = 1_048_576;
 
+#[cfg(test)]
+mod slip_tests;
 #[cfg(test)]
 mod tests;

@@ -1,6 +1,6 @@
 //! The fields of the objects of definitions.
 ghost use Rattle.std.specs.Prelude.{◌≡◌, option_map};
-ghost use Rattle.defs_read.specs.Tables.{consumer_fields, later_fields, line_fields, queue_fields, required_fields, type_named};
+ghost use Rattle.defs_read.specs.Tables.{later_fields, line_fields, queue_fields, required_fields, type_named};
 
 use fields_read::Field;
 
@@ -16,8 +16,10 @@ pub(crate) enum QueueType {
 /// The one field of the line.
 pub(crate) const LINE: [Field; 1] = [Field::Queues];
 
-/// The fields of a consumer, all of which must stand.
-pub(crate) const CONSUMER: [Field; 2] = [Field::Name, Field::Actor];
+/// The fields of a consumer, in order, and those of them that must stand.
+pub(crate) const CONSUMER: [Field; 3] = [Field::Name, Field::Actor, Field::Selector];
+
+pub(crate) const REQUIRED_CONSUMER: [Field; 2] = [Field::Name, Field::Actor];
 
 /// The fields of a queue of each type, in order: the name, and those behind it.
 const STANDARD: [Field; 6] = [

@@ -394,7 +394,7 @@ fn check_fault(rt: &(impl Abort + AllocGlobal), text: &str, want: Option<DefsFau
 }
 
 /// Definitions of the queue `q` with so many consumers, named by numbers from 0, and with what stands behind them.
-fn crowd(alloc: Global, count: u32, last: &str) -> Result<String, AllocError> {
+pub(crate) fn crowd(alloc: Global, count: u32, last: &str) -> Result<String, AllocError> {
     let mut text = String::from_str(alloc, r#"{"queues":[{"name":"q","consumers":["#)?;
     for number in 0..count {
         text.push_str(&format!(in alloc; r#"{{"name":"{number}","actor":"a"}},"#)?)?;

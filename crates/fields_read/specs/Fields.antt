@@ -4,7 +4,7 @@ use Rattle.serde_json.specs.Data.{Data, Items, no_items, Members, no_members}
 use Rattle.serde_json.specs.Find.{get, as_bool, as_number, as_str, as_array, as_object, as_u64}
 use Rattle.fields_read.specs.Forms.{is_name, is_text_with, is_text_within, is_one_of, is_whole, is_limit, is_list_of, are_headers}
 use Rattle.fields_read.specs.declared.fields.Field.{Field}
-use Rattle.fields_read.specs.declared.fields.Field.TheVariants.{Queues, Name, Kind, Priorities, SortKey, LvqKey, MaximumMessages, MaximumBytes, OverflowPolicy, Consumers, Actor, Do, Queue, Consumer, Id, Persistent, Priority, Headers, Body}
+use Rattle.fields_read.specs.declared.fields.Field.TheVariants.{Queues, Name, Kind, Priorities, SortKey, LvqKey, MaximumMessages, MaximumBytes, OverflowPolicy, Consumers, Actor, Selector, Do, Queue, Consumer, Id, Persistent, Priority, Headers, Body}
 
 -- the name that the field has in an object
 abbrev pub name_of : Field → List ℕ
@@ -19,6 +19,7 @@ name_of MaximumBytes = codes "maximumQueueDepthBytes"
 name_of OverflowPolicy = codes "overflowPolicy"
 name_of Consumers = codes "consumers"
 name_of Actor = codes "actor"
+name_of Selector = codes "selector"
 name_of Do = codes "do"
 name_of Queue = codes "queue"
 name_of Consumer = codes "consumer"
@@ -49,6 +50,7 @@ accepts MaximumBytes d = is_limit d
 accepts OverflowPolicy d = is_one_of policies d
 accepts Consumers d = is_some (as_array d)
 accepts Actor d = is_text_with is_name d
+accepts Selector d = is_some (as_str d)
 accepts Do d = is_some (as_str d)
 accepts Queue d = is_text_with is_name d
 accepts Consumer d = is_text_with is_name d

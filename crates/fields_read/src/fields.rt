@@ -33,6 +33,8 @@ pub enum Field {
     Consumers,
     /// `actor`: a name.
     Actor,
+    /// `selector`: a text. Which texts are selectors is not known here.
+    Selector,
     /// `do`: a text. Which texts say what a line does is not known here.
     Do,
     /// `queue`: a name.
@@ -68,6 +70,7 @@ impl Field {
             Field::OverflowPolicy => "overflowPolicy",
             Field::Consumers => "consumers",
             Field::Actor => "actor",
+            Field::Selector => "selector",
             Field::Do => "do",
             Field::Queue => "queue",
             Field::Consumer => "consumer",
@@ -96,7 +99,7 @@ impl Field {
             Field::Persistent => value.is_boolean(),
             Field::Priority => is_whole(value, 0, 9),
             Field::Headers => are_headers(value),
-            Field::Do | Field::Body => value.is_string(),
+            Field::Selector | Field::Do | Field::Body => value.is_string(),
         }
     }
 }

@@ -10,8 +10,14 @@ use std::process::ExitCode;
 use std::{env, io};
 
 /// What is printed on standard error where the words are refused.
-const USAGE: &str =
-    "usage: qpidq run\n  Reads a script from standard input, runs it, and writes each line's answer\n  and what the queue holds to standard output. docs/SCRIPT.md has the lines.";
+const USAGE: &str = "usage: qpidq run
+       qpidq select TEXT
+  run     Reads a script from standard input, runs it, and writes each line's
+          answer and what the queue holds to standard output.
+  select  Reads messages from standard input, one a line, and writes for each
+          what the selector TEXT is of it: true, false or unknown. TEXT is not
+          empty and does not begin with '-'; ' -1 < a' does not.
+docs/SCRIPT.md has the lines, docs/SELECTORS.md the selectors.";
 
 /// The words after the program's name. Words that are not text count as none.
 fn words_of(rt: &(impl Env + AllocGlobal)) -> io::Result<Vec<String>> {

@@ -345,6 +345,7 @@ fn consumer(rt: &impl Abort, alloc: Global, name: &str, actor: &str, number: u32
         name: bytes(rt, alloc, name),
         actor: bytes(rt, alloc, actor),
         number,
+        selector: None,
     }
 }
 

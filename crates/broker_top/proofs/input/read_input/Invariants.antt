@@ -6,9 +6,9 @@ abbrev pub invariant-reading : goal.invariant-reading
 invariant-reading g l = record {
   taken : Takes (g.S.Source.left l.fn.source) (g.S.Source.left l.source) l.kept.items;
   faults : g.S.Source.faults l.fn.source ≤ g.S.Source.faults l.source;
-  within : vec_len l.kept ≤ l.limit + 1;
+  within : vec_len l.kept ≤ 67108864 + 1;
   chunk : vec_len l.chunk ≡ 65536;
 }
 
 abbrev pub decreases-reading : goal.decreases-reading
-decreases-reading g l = l.limit + 1 - vec_len l.kept
+decreases-reading g l = 67108864 + 1 - vec_len l.kept

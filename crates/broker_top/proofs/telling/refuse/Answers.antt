@@ -1,7 +1,7 @@
 use Rattle.std.proofs.Common.{◌≡◌, ◌∙◌, inl, sym, true≢false}
 use Rattle.broker_top.specs.declared.faults.InputFault.TheVariants.{NoMemory}
-use Rattle.broker_top.proofs.top.refuse.Goals as goal
-use Rattle.broker_top.proofs.top.refuse.Goals.{in-NoMemory, in_default}
+use Rattle.broker_top.proofs.telling.refuse.Goals as goal
+use Rattle.broker_top.proofs.telling.refuse.Goals.{in-NoMemory, in_default}
 
 pub returns-in-Ok : goal.returns-in-Ok
 returns-in-Ok g c =
@@ -11,4 +11,4 @@ returns-in-Ok g c =
       | in_default w ↦ λ same. w.in_default.not-NoMemory same
     ])
     in
-    inl (other, rw (c.as_bytes.ensures.value, c.in-Ok.ensures) at c.tell-in-Ok.ensures)
+    inl (other, rw (c.as_bytes.ensures.value, c.in-Ok.ensures) at c.tell.ensures)

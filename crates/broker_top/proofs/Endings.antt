@@ -1,0 +1,56 @@
+-- how a task ends that was not done
+use Rattle.std.proofs.Common.{◌≡◌, ℕ, inl, inr, Option, List, Result, Err, codes, refl, ap}
+use Rattle.script_read.specs.declared.faults.LineFault.TheVariants as line
+use Rattle.script_read.specs.declared.faults.ScriptFault.{ScriptFault}
+use Rattle.broker_top.specs.declared.faults.InputFault.{InputFault}
+use Rattle.broker_top.specs.declared.faults.InputFault.TheVariants as input
+use Rattle.broker_top.specs.declared.input.Unread.{Unread}
+use Rattle.broker_top.specs.declared.input.Unread.TheVariants as unread
+use Rattle.broker_top.specs.declared.status.Status.{Status}
+use Rattle.broker_top.specs.declared.status.Status.TheVariants.{InputRefused, NoMemory}
+use Rattle.broker_top.specs.Ends.{Comes, IsRefused, Refuses, TaskEnds, Tells, TellsRefusal}
+use Rattle.broker_top.specs.Faults.{OfScript, fault_text, line_cause, line_text}
+use Rattle.broker_top.specs.Input.{IsTooLarge, LeavesUnread, input_limit, too_large_text}
+use Rattle.broker_top.specs.Job.{GivesJob, Lines}
+use Rattle.broker_top.specs.Unread.{unread_status, unread_text}
+use Rattle.broker_top.specs.Words.{Task}
+
+module _ (task : Task) (result : Status) (left left' written written' : Option (List ℕ)) (f f' g g' : ℕ) where
+  pub wants_memory : Tells result NoMemory (codes "fault: memory\n") written written' g g' → TaskEnds task result left left' written written' f f' g g'
+  wants_memory tells = record { status = NoMemory; text = codes "fault: memory\n"; comes = refl; tells = tells }
+
+  pub refusal : (text : List ℕ) → IsRefused task text left left' → Tells result InputRefused text written written' g g' → TaskEnds task result left left' written written' f f' g g'
+  refusal text refused tells = record { status = InputRefused; text = text; comes = refused; tells = tells }
+
+  unread_comes : (u : Unread) → (IsTooLarge too_large_text left left' → IsRefused task too_large_text left left') → LeavesUnread input_limit u left left' f f' → Comes task (unread_status u) (unread_text u) left left' f f'
+  unread_comes unread.TooLarge refused h = refused (record { front = h.0; read = h.1; large = h.2; told = refl })
+  unread_comes unread.Fault refused h = (h, refl)
+  unread_comes unread.NoMemory refused h = refl
+
+  pub unread_ends : (u : Unread) → (IsTooLarge too_large_text left left' → IsRefused task too_large_text left left') → LeavesUnread input_limit u left left' f f' → Tells result (unread_status u) (unread_text u) written written' g g'
+      → TaskEnds task result left left' written written' f f' g g'
+  unread_ends u refused h tells = record { status = unread_status u; text = unread_text u; comes = unread_comes u refused h; tells = tells }
+
+  pub refusal_ends : (text : List ℕ) → IsRefused task text left left' → TellsRefusal text result written written' g g' → TaskEnds task result left left' written written' f f' g g'
+  refusal_ends text refused (inl tells) = refusal text refused tells
+  refusal_ends text refused (inr tells) = wants_memory tells
+
+  pub fault_ends : (fault : InputFault) → ((fault ≡ input.NoMemory → ⊥) → IsRefused task (fault_text fault) left left') → Refuses fault result written written' g g' → TaskEnds task result left left' written written' f f' g g'
+  fault_ends fault refused (inl told) = refusal (fault_text fault) (refused told.0) told.1
+  fault_ends fault refused (inr tells) = wants_memory tells
+
+-- a fault of an input that is no want of memory is what the input says
+pub err_says : (fault : InputFault) (said : Result Lines InputFault) → GivesJob (Err fault) said → (fault ≡ input.NoMemory → ⊥) → said ≡ Err fault
+err_says (input.Definitions n cause) said h other = h
+err_says (input.Line refused) said h other = h
+err_says (input.NotBuilt n) said h other = h
+err_says (input.TooManyEntries n) said h other = h
+err_says input.NoMemory said h other = absurd (other refl)
+
+-- a line's fault that is no want of memory is that of a script
+pub of_script : (fault : ScriptFault) (told : InputFault) → OfScript fault told → (told ≡ input.NoMemory → ⊥) → (fault.cause ≡ line.NoMemory → ⊥) × (fault_text told ≡ line_text fault.line (line_cause fault.cause))
+of_script fault (input.Line refused) h other = (h.1, ap (λ (s : ScriptFault). line_text s.line (line_cause s.cause)) h.0)
+of_script fault input.NoMemory h other = absurd (other refl)
+of_script fault (input.Definitions n cause) h other = absurd h
+of_script fault (input.NotBuilt n) h other = absurd h
+of_script fault (input.TooManyEntries n) h other = absurd h

@@ -1,0 +1,6 @@
+use Rattle.std.proofs.Common.{take}
+use Rattle.defs_read.specs.Slips.{IsMask}
+use Rattle.defs_read.proofs.slips.mask_of.Given as goal
+
+abbrev pub invariant-loop-index : goal.invariant-loop-index
+invariant-loop-index l = IsMask l.mask (take l.index l.consumers) l.message
