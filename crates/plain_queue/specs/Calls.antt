@@ -12,10 +12,12 @@ use Rattle.acts_core.specs.Order.{ByList, Precedes}
 use Rattle.acts_core.specs.Sound.{Sound}
 use Rattle.acts_core.specs.State.{row_at}
 
+-- nobody has the row
 abbrev pub is_available : RowState → Bool
 is_available Available = true
 is_available s = false
 
+-- caller h holds the row
 abbrev pub is_locked_by : ℕ → RowState → Bool
 is_locked_by h (Locked k) = k == h
 is_locked_by h s = false
@@ -36,9 +38,11 @@ plain_slip id content = record { id = id; size = length content; mask = 0; list 
 abbrev pub put_acts : Queue → ℕ → List ℕ → List Act
 put_acts q id content = Reserve (length content) ∷ Enq (length q.rows) (plain_slip id content) content [] 0 ∷ []
 
+-- a take acquires the row
 abbrev pub take_acts : Row → List Act
 take_acts x = Acq x.number ∷ []
 
+-- a release makes the row available again, with a count of no deliveries
 abbrev pub release_acts : Row → List Act
 release_acts x = Rel x.number 0 ∷ []
 

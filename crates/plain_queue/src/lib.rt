@@ -38,7 +38,7 @@ impl Model for PlainQueue {
 }
 
 impl PlainQueue {
-    /// An empty queue. Takes no memory.
+    /// A queue with no rows, whose depth is 0 entries and 0 bytes. Takes no memory.
     pub fn make(alloc: Global) -> PlainQueue
         ensures { result ≡ empty 1 0 }
     {
@@ -49,8 +49,10 @@ impl PlainQueue {
         }
     }
 
-    /// Reserves an entry and enqueues a message at the end, whoever calls. Its size is the length of its
-    /// content, in bytes. Refuses only for want of memory, and then nothing changed.
+    /// Reserves an entry and enqueues a message at the end, whoever calls: as an available row, with a
+    /// count of 0 deliveries. Its size is the length of its content, in bytes, of `MOST_BYTES` at most; the
+    /// queue's depth must have fewer entries than `MOST_ENTRIES`. Refuses only for want of memory, and then
+    /// nothing changed.
     pub fn put(&mut self, id: u64, content: Bytes) -> Result<(), NoMemory>
         requires size { length content ≤ most_bytes }
         requires room { entries self.old < most_entries }
@@ -108,8 +110,9 @@ impl PlainQueue {
         true
     }
 
-    /// Takes the first row of this id that the caller holds out of the queue for good. Answers whether
-    /// the caller held one; if not, nothing changed.
+    /// Takes the first row of this id that the caller holds out of the queue for good: the row is deleted
+    /// and keeps its place, and the depth has its entry and its bytes less. Answers whether the caller held
+    /// one; if not, nothing changed.
     pub fn ack(&mut self, caller: u64, id: u64) -> bool
         ensures { Handles ack_acts caller id self.old result self.new }
     {
@@ -124,7 +127,7 @@ impl PlainQueue {
         true
     }
 
-    /// The entries and bytes that the queue has.
+    /// How many entries the queue has, and their bytes: those of all rows that are available or held.
     pub fn depth(&self) -> Depth
         ensures { result ≡ depth self.now }
     {
