@@ -1,12 +1,12 @@
-use Rattle.std.specs.Prelude.{ℕ, ◌<◌, ◌≤◌, List, ◌++◌, length, take, Option, Result, Ok, Err}
+use Rattle.std.specs.Prelude.{◌≡◌, ℕ, ◌<◌, ◌≤◌, List, ◌++◌, length, take, Option, Result, Ok, Err}
 use Rattle.outside_io.specs.Told.{Adds}
 use Rattle.outside_io.specs.declared.outside.Failed.{Failed}
 
--- over calls in which the count of faults went from f to g, the whole text was written; or one failed, and
--- some front of the text was written
+-- Over calls in which the count of faults went from f to g, none failed and the whole text was written; or one
+-- failed, and some front of the text was written.
 abbrev pub Says : {E : Type 0} → Result (Unit {0}) E →
     Option (List ℕ) → Option (List ℕ) → ℕ → ℕ → List ℕ → Type 0
-Says (Ok u) old new f g text = Adds old new text × (f ≤ g)
+Says (Ok u) old new f g text = Adds old new text × (g ≡ f)
 Says (Err e) old new f g text = (f < g) × ((n : ℕ) × (n ≤ length text) × Adds old new (take n text))
 
 -- where writing a text failed, writing that text and more has failed

@@ -1,4 +1,4 @@
-use Rattle.std.specs.Prelude.{◌≡◌, ℕ, ◌<◌, ◌≤◌, List, [], ◌++◌, length, take, Option, Some, None, Result, MatchResult, IfSome, OnErr, ⊤}
+use Rattle.std.specs.Prelude.{◌≡◌, ℕ, ◌<◌, ◌≤◌, List, [], ◌++◌, length, take, Option, Some, None, Result, MatchResult, IfSome, OnOk, OnErr, ⊤}
 
 -- what is told after a call was told before it, and then P holds of the two
 abbrev pub WhileTold : {A : Type 0} → Option A → Option A → (A → A → Type 0) → Type 0
@@ -18,9 +18,9 @@ Adds old new bytes = WhileTold old new (λ x y. y ≡ x ++ bytes)
 abbrev pub AtEnd : Option (List ℕ) → Type 0
 AtEnd left = IfSome left (λ x. x ≡ [])
 
--- the count of faults hasn't fallen over a call, and rose where the call failed
+-- over a call the count of faults rose where the call failed, and else stayed
 pub record HasCause {T E : Type 0} (before now : ℕ) (result : Result T E) : Type 0 where
-  pub later : before ≤ now
+  pub kept : OnOk result (now ≡ before)
   pub failed : OnErr result (before < now)
 
 -- a read took the n bytes in front of the buffer, 0 only at the end; where it failed it took nothing

@@ -1,5 +1,5 @@
 //! A source and a sink over memory, which fail at the calls that they are told to fail at.
-ghost use Rattle.std.specs.Prelude.{◌≡◌, ◌+◌, ◌-◌, ◌<◌, ◌≤◌, ◌↔◌, ◌++◌, [], min, length, take, drop, vec_len, vec_capacity, IfOk, OnErr, IsErr, IsTrue};
+ghost use Rattle.std.specs.Prelude.{◌≡◌, ◌+◌, ◌-◌, ◌<◌, ◌≤◌, ◌↔◌, ◌++◌, [], min, length, take, drop, vec_len, vec_capacity, IfOk, MatchResult, OnErr, IsErr, IsTrue};
 ghost use Rattle.outside_io.specs.Told.{HasCause, Reads, Writes};
 ghost use Rattle.outside_io.specs.Counts.{last_count, next_call, IsSpent, IsListed};
 ghost use Rattle.outside_io.specs.Memory.{left_of, written_of, FailsNext, RefusesNext};
@@ -57,7 +57,8 @@ impl Source for MemorySource {
 
     ghost faults = { λ s. s.faults };
 
-    /// As many bytes as the buffer and what is left allow.
+    /// As many bytes as the buffer and what is left allow. The buffer keeps what it has behind them, and all
+    /// that it has where the read fails.
     fn read(&mut self, buffer: &mut [u8]) -> Result<usize, Failed>
         requires { 0 < length buffer.old }
 
@@ -78,6 +79,8 @@ impl Source for MemorySource {
           left = drop n self.old.left;
           call = next_call self.old.call;
         }) }
+        ensures behind { MatchResult result
+            (λ n. drop n buffer.new ≡ drop n buffer.old) (λ _. buffer.new ≡ buffer.old) }
 
         // The end of the counter: nothing is reached any more, and nothing changes.
         ensures top { self.new.faults ≤ last_count }
@@ -227,6 +230,7 @@ fn is_listed(failing: &[u64], call: u64) -> bool
 fn copy_front(from: &[u8], into: &mut [u8]) -> usize
     ensures count { result ≡ min (length into.old) (length from.now) }
     ensures parts { from.now ≡ take result into.new ++ drop result from.now }
+    ensures behind { drop result into.new ≡ drop result into.old }
 {
     let count = into.len().min(from.len());
     into[..count].copy_from_slice(&from[..count]);

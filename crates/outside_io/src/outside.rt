@@ -15,12 +15,12 @@ pub trait Source {
     /// The bytes that are left; None where the source doesn't tell them.
     ghost left: { Self → Option (List ℕ) };
 
-    /// How often a call has failed. It never falls.
+    /// How often a call has failed. It rises where a call fails, and else stays.
     ghost faults: { Self → ℕ };
 
     /// Moves bytes from the front of what is left to the front of the buffer, as many as the answer
-    /// says. 0 says that nothing is left. Where it fails it takes nothing, and the buffer may hold
-    /// anything.
+    /// says. 0 says that nothing is left. Where it fails it takes nothing. Behind the bytes that were moved
+    /// the buffer may hold anything, and where it fails all of it may.
     fn read(&mut self, buffer: &mut [u8]) -> Result<usize, Failed>
         requires { 0 < length buffer.old }
         ensures bound { IfOk result (λ n. n ≤ length buffer.new) }
@@ -34,7 +34,7 @@ pub trait Sink {
     /// The bytes that were written; None where the sink doesn't tell them.
     ghost written: { Self → Option (List ℕ) };
 
-    /// How often a call has failed. It never falls.
+    /// How often a call has failed. It rises where a call fails, and else stays.
     ghost faults: { Self → ℕ };
 
     /// Writes the first of the bytes, as many as the answer says: at least one. Where it fails it

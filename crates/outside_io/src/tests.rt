@@ -6,12 +6,18 @@ use std::io::{Read, Write};
 use std::process::Abort;
 use std::test::Fail;
 
-/// A reader that always fails.
+/// A reader that fails once, and then is at its end.
 #[derive(Drop)]
-struct BrokenReader;
+struct BrokenReader {
+    failed: bool,
+}
 
 impl Read for BrokenReader {
     fn read(&mut self, _buf: &mut [u8]) -> io::Result<usize> {
+        if self.failed {
+            return Ok(0);
+        }
+        self.failed = true;
         Err(io::Error::other("broken"))
     }
 }
@@ -131,7 +137,9 @@ fn std_readers_and_writers(rt: HostRuntime) -> Result<(), Fail> {
     assert_eq!(rt; source.read(&mut buffer), Ok(1));
     assert_eq!(rt; buffer[0], b'c');
     assert_eq!(rt; source.read(&mut buffer), Ok(0));
-    assert_eq!(rt; StdSource::new(BrokenReader).read(&mut buffer), Err(Failed));
+    let mut source = StdSource::new(BrokenReader { failed: false });
+    assert_eq!(rt; source.read(&mut buffer), Err(Failed));
+    assert_eq!(rt; source.read(&mut buffer), Ok(0));
 
     let mut kept = Vec::new(rt.alloc());
     let mut sink = StdSink::new(&mut kept);

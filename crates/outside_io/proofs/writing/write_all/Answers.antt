@@ -8,6 +8,6 @@ writing-preserved g c =
     record {
       within = within_rest c.args.bytes.now c.writing.at c.in_ok-at.field-0 c.writing.invariant.within wrote.2;
       added = adds_more _ _ _ c.args.bytes.now c.writing.at c.in_ok-at.field-0 c.writing.invariant.added wrote.0;
-      counted = omega (arith, c.writing.invariant.counted, c.in_ok-at.ensures.cause.later);
+      counted = omega (arith, c.writing.invariant.counted, c.in_ok-at.ensures.cause.kept);
       untouched = λ none. absurd (omega (arith, none, wrote.1));
     }
