@@ -15,6 +15,7 @@ abbrev pub Legal : Queue → List Deed → Type 0
 Legal q [] = Unit {0}
 Legal q (d ∷ ds) = Can q d.caller d.act × Legal (acted q d.caller d.act) ds
 
+-- caller h does the deed
 abbrev pub is_by : ℕ → Deed → Bool
 is_by h d = d.caller == h
 
@@ -22,6 +23,7 @@ is_by h d = d.caller == h
 abbrev pub own : ℕ → List Deed → List Deed
 own h ds = filter (is_by h) ds
 
+-- caller h does this act
 abbrev pub deed : ℕ → Act → Deed
 deed h a = record { caller = h; act = a }
 

@@ -21,12 +21,15 @@ pub record IsSized (v : Reservation) : Type 0 where
   pub entry : 0 < v.entries
   pub bytes : v.bytes ≤ most_bytes * v.entries
 
+-- both rows have one number
 abbrev pub same_number : Row → Row → Bool
 same_number x = is_row x.number
 
+-- both reservations are of one caller
 abbrev pub same_holder : Reservation → Reservation → Bool
 same_holder v = is_holder v.holder
 
+-- both bells are of one consumer at one list
 abbrev pub same_bell : Bell → Bell → Bool
 same_bell b = is_bell b.consumer b.list
 

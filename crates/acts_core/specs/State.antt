@@ -16,6 +16,7 @@ empty lists consumers = record { lists = lists; consumers = consumers; rows = []
 
 -- Rows
 
+-- the row's number is r
 abbrev pub is_row : ℕ → Row → Bool
 is_row r x = x.number == r
 
@@ -27,6 +28,7 @@ row_at q r = find (is_row r) q.rows
 abbrev pub IsIn : Queue → ℕ → RowState → Type 0
 IsIn q r s = (x : Row) × (row_at q r ≡ Some x) × (x.state ≡ s)
 
+-- the row is in list l
 abbrev pub is_of_list : ℕ → Row → Bool
 is_of_list l x = x.slip.list == l
 
@@ -42,14 +44,17 @@ list_at q r = option_map_or (λ x. x.slip.list) (row_at q r) 0
 abbrev pub place_at : Queue → ℕ → ℕ
 place_at q r = position_or_len (is_row r) (rows_of q (list_at q r))
 
+-- the size of row r, 0 where there is none
 abbrev pub size_at : Queue → ℕ → ℕ
 size_at q r = option_map_or (λ x. x.slip.size) (row_at q r) 0
 
 -- Reservations
 
+-- the reservation is of caller h
 abbrev pub is_holder : ℕ → Reservation → Bool
 is_holder h v = v.holder == h
 
+-- no reservation of caller h: no entries and no bytes
 abbrev pub nothing : ℕ → Reservation
 nothing h = record { holder = h; entries = 0; bytes = 0 }
 
@@ -59,6 +64,7 @@ reserved_by q h = unwrap_or (find (is_holder h) q.reserved) (nothing h)
 
 -- Bells
 
+-- the bell is of consumer c at list l
 abbrev pub is_bell : ℕ → ℕ → Bell → Bool
 is_bell c l b = (b.consumer == c) && (b.list == l)
 
@@ -76,15 +82,19 @@ counts (Unlocked h) = true
 counts Dequeued = false
 counts Deleted = false
 
+-- what a row adds to the entries of the depth: 1, or 0 where it doesn't count
 abbrev pub row_entries : Row → ℕ
 row_entries x = if counts x.state then 1 else 0
 
+-- what a row adds to the bytes of the depth: its size, or 0 where it doesn't count
 abbrev pub row_bytes : Row → ℕ
 row_bytes x = if counts x.state then x.slip.size else 0
 
+-- the entries of the depth
 abbrev pub entries : Queue → ℕ
 entries q = sum_by row_entries q.rows + sum_by (λ v. v.entries) q.reserved
 
+-- the bytes of the depth
 abbrev pub bytes : Queue → ℕ
 bytes q = sum_by row_bytes q.rows + sum_by (λ v. v.bytes) q.reserved
 

@@ -54,9 +54,11 @@ Can q h (Take c l) = (c < q.consumers) × (l < q.lists)
 
 -- What a step does
 
+-- the row in another state
 abbrev pub in_state : RowState → Row → Row
 in_state s x = record x { state = s }
 
+-- the row in another state, with another count
 abbrev pub left_in : RowState → ℕ → Row → Row
 left_in s n x = record x { state = s; count = n }
 
@@ -74,12 +76,15 @@ abbrev pub less : ℕ → Option Reservation → Option Reservation
 less size None = None
 less size (Some v) = if v.entries == 1 then None else Some (record v { entries = v.entries - 1; bytes = v.bytes - size })
 
+-- caller h has one more entry of this size reserved
 abbrev pub reserving : Queue → ℕ → ℕ → Queue
 reserving q h size = record q { reserved = alter (is_holder h) (more h size) q.reserved }
 
+-- caller h has one reserved entry of this size less
 abbrev pub giving_back : Queue → ℕ → ℕ → Queue
 giving_back q h size = record q { reserved = alter (is_holder h) (less size) q.reserved }
 
+-- a new row stands at the end
 abbrev pub appending : Queue → Row → Queue
 appending q x = record q { rows = q.rows ++ x ∷ [] }
 
@@ -88,6 +93,7 @@ abbrev pub earlier : ring.Bell → Option ring.Bell → Option ring.Bell
 earlier b None = Some b
 earlier b (Some a) = if nat_lt b.place a.place then Some b else Some a
 
+-- the bell is rung
 abbrev pub ringing : Queue → ring.Bell → Queue
 ringing q b = record q { bells = alter (is_bell b.consumer b.list) (earlier b) q.bells }
 

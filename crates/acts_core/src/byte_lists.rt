@@ -86,7 +86,8 @@ impl Buffer {
         }
     }
 
-    /// Puts the bytes at the end. Takes no memory, and never lowers the room.
+    /// Puts the bytes at the end, which must fit into the room behind those that are there. Takes no memory,
+    /// and never lowers the room.
     pub fn append(&mut self, bytes: &[u8])
         requires { length self.old.bytes + length bytes.now ≤ self.old.room }
         ensures bytes { self.new.bytes ≡ self.old.bytes ++ bytes.now }

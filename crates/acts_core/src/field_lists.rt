@@ -203,7 +203,8 @@ impl Reservation {
     }
 }
 
-/// Whether a mask has no bit past so many consumers.
+/// Whether a mask has no bit past so many consumers; bit 0 is that of the first. For 64 consumers and more each
+/// mask has none.
 pub fn fits_mask(mask: u64, consumers: u32) -> bool
     ensures { IsTrue result ↔ (mask < 2 ^ consumers) }
 {
