@@ -8,7 +8,7 @@ use Rattle.report_core.specs.Names.{caller_name, IsHolder}
 abbrev pub answer_line : List ℕ → ℕ → List ℕ → List ℕ
 answer_line actor line answer = actor ++ (codes " " ++ (decimal line ++ (codes " " ++ (answer ++ codes "\n"))))
 
--- an entry that is left, and who had it
+-- who had an entry, where somebody had it
 abbrev pub holder_text : List (List ℕ) → Option ℕ → List ℕ
 holder_text actors None = []
 holder_text actors (Some caller) = codes " held " ++ caller_name actors caller
@@ -17,6 +17,7 @@ holder_text actors (Some caller) = codes " held " ++ caller_name actors caller
 abbrev pub HasHolder : List (List ℕ) → Resting → Type 0
 HasHolder actors entry = IsHolder actors entry.holder
 
+-- the line of an entry that is left
 abbrev pub resting_line : List (List ℕ) → Resting → List ℕ
 resting_line actors entry = codes "entry " ++ (decimal entry.id ++ (holder_text actors entry.holder ++ codes "\n"))
 

@@ -19,6 +19,7 @@ abbrev pub fate_text : Bool → List ℕ
 fate_text true = codes " held "
 fate_text false = codes " dropped "
 
+-- an acquired entry: what became of it, its queue and its id
 abbrev pub drop_text : List (List ℕ) → Dropped → List ℕ
 drop_text queues d = fate_text d.kept ++ (name_at queues d.queue ++ (codes "#" ++ decimal d.id))
 

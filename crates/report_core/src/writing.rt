@@ -44,7 +44,8 @@ fn say_rest<K: Sink>(
 /// of its queue, queue 0 having the first of `queues`. The drops that an answer speaks of are those at
 /// its span's places in `drops`.
 ///
-/// Takes no memory. Where the sink fails, some front of the line was written.
+/// Asks for a name of each caller and of each queue that the answer speaks of. Takes no memory. Failed comes
+/// only where the sink's count of faults rose; then some front of the line was written.
 pub fn write_answer<K: Sink>(
     out: &mut K,
     actor: &Bytes,
@@ -126,10 +127,12 @@ fn say_queue<K: Sink>(out: &mut K, name: &Bytes, entries: &[Resting]) -> Result<
     say_depth(out, entries.len() as u64, sum_of(entries))
 }
 
-/// Writes what a queue holds: `queue NAME ENTRIES BYTES`, and under it `entry ID` for each entry in the
-/// order of the list, with ` held ACTOR` where somebody had it. Caller 1 has the first of `actors`.
+/// Writes what a queue holds: `queue NAME ENTRIES BYTES`, BYTES being the sizes of the entries together, and
+/// under it `entry ID` for each entry in the order of the list, with ` held ACTOR` where somebody had it.
+/// Caller 1 has the first of `actors`.
 ///
-/// Takes no memory. Where the sink fails, some front of the text was written.
+/// Asks for a name of each caller that had an entry. Takes no memory. Failed comes only where the sink's count of
+/// faults rose; then some front of the text was written.
 pub fn write_queue<K: Sink>(
     out: &mut K,
     name: &Bytes,
