@@ -9,7 +9,8 @@ use Rattle.link_core.specs.Table.{Table}
 abbrev pub MayStep : Table → ℕ → Step → Type 0
 MayStep t h step = (h < t.callers) × Fits t h step
 
--- Ok: the word that the step showed, and the step was done. Unfit: the step does not fit, or the table has no such caller; nothing changed.
+-- Ok: the word that the step showed, and the step was done. Unfit: the step does not fit, or the table has no such
+-- caller; nothing changed.
 abbrev pub Advances : Result ℕ Unfit → Table → Table → ℕ → Step → Type 0
 Advances (Ok word) old new h step = MayStep old h step × (word ≡ shown old step) × (new ≡ moved old h step)
 Advances (Err e) old new h step = (MayStep old h step → ⊥) × (new ≡ old)

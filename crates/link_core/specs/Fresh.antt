@@ -13,8 +13,10 @@ blank_rows (suc n) = 0 ∷ 1 ∷ 0 ∷ 0 ∷ 0 ∷ 0 ∷ 0 ∷ blank_rows n
 abbrev pub fresh_front : ℕ → List ℕ
 fresh_front callers = 0 ∷ callers ∷ replicate 41 0 ++ replicate 640 no_bell
 
+-- all words of a table of so many callers and rows
 abbrev pub fresh_words : ℕ → ℕ → List ℕ
 fresh_words callers rows = fresh_front callers ++ blank_rows rows
 
+-- a table of so many lists, rows, consumers and callers, in which nothing has happened
 abbrev pub fresh : ℕ → ℕ → ℕ → ℕ → Table
 fresh lists rows consumers callers = record { rows = rows; lists = lists; consumers = consumers; callers = callers; words = fresh_words callers rows; drawer = λ r. None; reserved = nothing }

@@ -1,4 +1,5 @@
--- steps on words that no list of steps has yet: unlinks, bells, marks and counts
+-- Only defined: no contract and no proof cites these. They are the further steps of the table that is to come:
+-- unlinks, and steps on bells, on marks and on counts.
 use Rattle.std.specs.Prelude.{◌≡◌, ℕ, ◌+◌, ◌*◌, ◌<◌, ◌==◌, nat_lt, if◌then◌else◌, suc, List, [], ◌∷◌, slice_index, slice_set}
 use Rattle.acts_core.specs.declared.deeds.Act.TheVariants as acts
 use Rattle.acts_core.specs.declared.deeds.Deed.{Deed}

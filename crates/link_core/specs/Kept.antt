@@ -30,9 +30,11 @@ table_of v = record {
   reserved = λ h. record { holder = h; entries = slice_index v.entries h; bytes = slice_index v.bytes h };
 }
 
+-- the lists that the vectors of a store have
 abbrev pub vectors_in : Store → Vectors
 vectors_in s = record { rows = s.rows; lists = s.lists; consumers = s.consumers; callers = s.callers; words = s.words.items; drawers = s.drawers.items; entries = s.entries.items; bytes = s.bytes.items }
 
+-- the table that a store keeps
 abbrev pub table_in : Store → Table
 table_in s = table_of (vectors_in s)
 

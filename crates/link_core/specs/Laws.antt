@@ -16,19 +16,21 @@ use Rattle.link_core.specs.Table.{Table}
 abbrev pub FreshLaw : Type 0
 FreshLaw = (lists rows consumers callers : ℕ) → lists ≤ 10 → rows ≤ 524288 → consumers ≤ 64 → callers ≤ 4294967296 → Stands (fresh lists rows consumers callers) (empty lists consumers)
 
--- Where the words stand for a state, the deed of a step that fits is legal there, and the words afterwards stand for the state after it.
+-- Where the words stand for a state, the deed of a step that fits is legal there, and the words afterwards stand for
+-- the state after it.
 abbrev pub StepLaw : Type 0
 StepLaw = (t : Table) (q : Queue) (h : ℕ) (step : Step) → Stands t q → Fits t h step → Legal q (deed t h step) × Stands (moved t h step) (after q (deed t h step))
 
--- After every list of steps that fit, from a fresh table on, the deeds of the steps are a legal history, and the words stand
--- for the state after it.
+-- After every list of steps that fit, from a fresh table on, the deeds of the steps are a legal history, and the words
+-- stand for the state after it.
 abbrev pub Law : Type 0
 Law = (lists rows consumers callers : ℕ) (steps : List (ℕ × Step)) → lists ≤ 10 → rows ≤ 524288 → consumers ≤ 64 → callers ≤ 4294967296
     → AllFit (fresh lists rows consumers callers) steps
     → Legal (empty lists consumers) (all_deeds (fresh lists rows consumers callers) steps)
     × Stands (all_moved (fresh lists rows consumers callers) steps) (after (empty lists consumers) (all_deeds (fresh lists rows consumers callers) steps))
 
--- A link that points as it should is empty where no row stands behind it. Else it names one of the rows behind it, and each row before that one is deleted.
+-- A link that points as it should is empty where no row stands behind it. Else it names one of the rows behind it, and
+-- each row before that one is deleted.
 abbrev pub LinkNames : Type 0
 LinkNames = (w : ℕ) (rows : List Row) → Points w rows
     → ((w ≡ 0) × (rows ≡ [])) ⊎ ((front : List Row) × (x : Row) × (back : List Row) × (rows ≡ front ++ x ∷ back) × AllByRecursion (λ y. y.state ≡ Deleted) front × (w ≡ suc x.number))

@@ -12,25 +12,32 @@ use Rattle.acts_core.specs.declared.steps.WordName.TheVariants as names
 
 -- Places of words. There is room for ten lists, and for 64 bells at each; each row has seven words.
 
+-- the link of a head or of a row
 abbrev pub link_of : Node → ℕ
 link_of (nodes.Head l) = 3 + l
 link_of (nodes.Row r) = 683 + 7 * r
 
+-- the tail of a list
 abbrev pub tail_of : ℕ → ℕ
 tail_of l = 13 + l
 
+-- the mark of a list
 abbrev pub mark_of : ℕ → ℕ
 mark_of l = 23 + l
 
+-- the count of a list
 abbrev pub count_of : ℕ → ℕ
 count_of l = 33 + l
 
+-- the bell of a consumer at a list
 abbrev pub bell_of : ℕ → ℕ → ℕ
 bell_of c l = 43 + 10 * c + l
 
+-- the state word of a row
 abbrev pub state_of : ℕ → ℕ
 state_of r = 684 + 7 * r
 
+-- the mask, place, identity, size or list word of a row
 abbrev pub draft_of : ℕ → DraftWord → ℕ
 draft_of r drafts.Mask = 685 + 7 * r
 draft_of r drafts.Place = 686 + 7 * r
@@ -38,6 +45,7 @@ draft_of r drafts.Ident = 687 + 7 * r
 draft_of r drafts.Size = 688 + 7 * r
 draft_of r drafts.List = 689 + 7 * r
 
+-- the word of a name
 abbrev pub place_of_word : WordName → ℕ
 place_of_word names.Top = 0
 place_of_word names.Callers = 1
@@ -52,7 +60,7 @@ place_of_word (names.Draft r w) = draft_of r w
 
 -- Packing
 
--- 0 stands for a state that is not set
+-- the word of a state; 0 is the word of none
 abbrev pub pack_state : RowState → ℕ
 pack_state Available = 1
 pack_state Dequeued = 2
@@ -69,6 +77,7 @@ pack_node (nodes.Row r) = suc r
 abbrev pub no_bell : ℕ
 no_bell = 18446744073709551615
 
+-- the word of a bell; None where it is silent
 abbrev pub pack_bell : Option ring.Bell → ℕ
 pack_bell None = no_bell
 pack_bell (Some b) = b.place * 1048576 + b.row
@@ -77,5 +86,6 @@ pack_bell (Some b) = b.place * 1048576 + b.row
 abbrev pub entry_worth : ℕ
 entry_worth = 1099511627776
 
+-- the word of a depth of so many entries and bytes
 abbrev pub pack_depth : ℕ → ℕ → ℕ
 pack_depth entries bytes = entries * entry_worth + bytes

@@ -37,7 +37,8 @@ pub record IsDrafted (words : List ℕ) (r at : ℕ) (slip : Slip) : Type 0 wher
 abbrev pub Drafts : List ℕ → Queue → Type 0
 Drafts words q = (r : ℕ) (x : Row) → row_at q r ≡ Some x → IsDrafted words r (place_at q r) x.slip
 
--- A link w behind which these rows stand is empty where there are none. Else it names one of them, and each before it is deleted.
+-- A link w behind which these rows stand is empty where there are none. Else it names one of them, and each before it
+-- is deleted.
 abbrev pub Points : ℕ → List Row → Type 0
 Points w [] = w ≡ 0
 Points w (x ∷ xs) = (w ≡ suc x.number) ⊎ ((x.state ≡ Deleted) × (w ≢ 0) × Points w xs)
@@ -73,8 +74,8 @@ Bells consumers lists words q = (c l : ℕ) → c < consumers → l < lists → 
 abbrev pub IsDepth : List ℕ → Queue → Type 0
 IsDepth words q = slice_index words 2 ≡ pack_depth (entries q) (bytes q)
 
--- A row of the queue is below the top and has no drawer. Any other is below the top exactly where it has a drawer, its state
--- word is that of an available row, and its link is empty.
+-- A row of the queue is below the top and has no drawer. Any other is below the top exactly where it has a drawer, its
+-- state word is that of an available row, and its link is empty.
 pub record Draws (rows : ℕ) (words : List ℕ) (drawer : ℕ → Option ℕ) (row_of : ℕ → Option Row) : Type 0 where
   pub top : slice_index words 0 ≤ rows
   pub below : (r : ℕ) (x : Row) → row_of r ≡ Some x → r < slice_index words 0

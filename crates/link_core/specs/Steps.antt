@@ -24,6 +24,7 @@ use Rattle.link_core.specs.Table.{Table, top, but, IsLinked, IsNode, list_of_nod
 
 -- Words by name
 
+-- the draft words of row r
 abbrev pub mask_in : Table → ℕ → ℕ
 mask_in t r = slice_index t.words (draft_of r drafts.Mask)
 
@@ -147,8 +148,8 @@ place_of_step (GiveBack size) = 2
 abbrev pub shown : Table → Step → ℕ
 shown t s = slice_index t.words (place_of_step s)
 
--- Whether the step changes its word. An exchange that shows another word than the expected one is a load, and so is a draw
--- where no row is left.
+-- Whether the step changes its word. An exchange that shows another word than the expected one is a load, and so is a
+-- draw where no row is left.
 abbrev pub hits : Table → Step → Bool
 hits t Draw = nat_lt (shown t Draw) t.rows
 hits t (Draft r w value) = true
@@ -223,8 +224,8 @@ act_with n Del r = acts.Del r
 abbrev pub enqueue_with : Table → ℕ → List ℕ → List ℕ → ℕ → Act
 enqueue_with t r content origin n = acts.Enq r (slip_in t r) content origin n
 
--- The acts of a step that changes its word: one or none. Contents and counts are not told: a content is as many zeros as the size, an
--- origin is empty, and a count is 0.
+-- The acts of a step that changes its word: one or none. Contents and counts are not told: a content is as many zeros
+-- as the size, an origin is empty, and a count is 0.
 abbrev pub acts_in : Table → Step → List Act
 acts_in t (Link r node) = enqueue_with t r (replicate (size_in t r) 0) [] 0 ∷ []
 acts_in t (State r change from) = act_with 0 change r ∷ []
@@ -243,10 +244,12 @@ abbrev pub AllFit : Table → List (ℕ × Step) → Type 0
 AllFit t [] = Unit {0}
 AllFit t (s ∷ steps) = Fits t s.0 s.1 × AllFit (moved t s.0 s.1) steps
 
+-- the table after all of the steps
 abbrev pub all_moved : Table → List (ℕ × Step) → Table
 all_moved t [] = t
 all_moved t (s ∷ steps) = all_moved (moved t s.0 s.1) steps
 
+-- the deeds of the steps that have one, in order
 abbrev pub all_deeds : Table → List (ℕ × Step) → List Deed
 all_deeds t [] = []
 all_deeds t (s ∷ steps) = deed t s.0 s.1 ++ all_deeds (moved t s.0 s.1) steps

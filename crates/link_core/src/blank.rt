@@ -17,8 +17,7 @@ fn fresh_words(alloc: Global, callers: u64, rows: u64) -> Result<Vec<u64>, Alloc
     words[1] = callers;
     let silent = vec![in alloc; NO_BELL; 640]?;
     words.extend_from_slice(&silent)?;
-    for row in 0..rows {
-        let _ = row;
+    for _ in 0..rows {
         words.extend_from_slice(&[0, 1, 0, 0, 0, 0, 0])?;
     }
     Ok(words)
@@ -29,8 +28,7 @@ fn no_drawers(alloc: Global, rows: u64) -> Result<Vec<Option<u64>>, AllocError>
     ensures { IfOk result (λ drawers. drawers.items ≡ replicate rows None) }
 {
     let mut drawers = Vec::new(alloc);
-    for row in 0..rows {
-        let _ = row;
+    for _ in 0..rows {
         drawers.push(None)?;
     }
     Ok(drawers)

@@ -16,7 +16,8 @@ use thiserror::Error;
 pub struct Unfit;
 
 /// The words of a linked queue, who drew each row that is not linked, and what each caller has reserved.
-/// Contracts see the lists that the vectors have, and by `table_of` the table that they keep. At all times the words stand for the state of a queue.
+/// Contracts see the lists that the vectors have, and by `table_of` the table that they keep. At all times the
+/// words stand for the state of a queue.
 #[derive(Debug, Drop)]
 pub struct Words {
     store: Store,
@@ -33,8 +34,8 @@ impl Model for Words {
 }
 
 impl Words {
-    /// A table in which nothing has happened. Its memory grows with the rows and with the callers. Refuses
-    /// only for want of memory.
+    /// A table in which nothing has happened, of at most 10 lists, 524,288 rows, 64 consumers and 2^32 callers.
+    /// Its memory grows with the rows and with the callers. Refuses only for want of memory.
     pub fn fresh(
         alloc: Global,
         lists: u32,
