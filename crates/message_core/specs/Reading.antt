@@ -17,6 +17,7 @@ use Rattle.message_core.specs.Names.{is_among}
 abbrev pub Read : Type 0 → Type 0
 Read A = Result (A × List ℕ) ℕ
 
+-- the next step goes on from what the one before gave; a fault ends the reading
 infixl 10 ◌>>=◌
 abbrev pub ◌>>=◌ : {A B : Type 0} → Result A ℕ → (A → Result B ℕ) → Result B ℕ
 (Ok x) >>= f = f x
@@ -26,9 +27,11 @@ abbrev pub ◌>>=◌ : {A B : Type 0} → Result A ℕ → (A → Result B ℕ) 
 abbrev pub allowed : {A : Type 0} → Bool → ℕ → A → Result A ℕ
 allowed good left x = if good then Ok x else Err left
 
+-- a number of so many bits, big-endian
 abbrev pub number_at : Width → List ℕ → Read ℕ
 number_at w bytes = if nat_lt (length bytes) (byte_len w) then Err (length bytes) else Ok (from_be_bytes w (take (byte_len w) bytes), drop (byte_len w) bytes)
 
+-- one byte
 abbrev pub byte_at : List ℕ → Read ℕ
 byte_at [] = Err 0
 byte_at (b ∷ rest) = Ok (b, rest)
@@ -67,6 +70,7 @@ text_at bytes = do
   len ← number_at w32 bytes
   utf8_at (length bytes) len.0 len.1
 
+-- a tag, and the value behind it
 unfoldable pub value_at : List ℕ → Read HeaderValue
 value_at [] = Err 0
 value_at (zero ∷ rest) = Ok (value.Bool false, rest)
@@ -79,6 +83,7 @@ value_at (suc (suc (suc zero)) ∷ rest) = do
   Ok (value.Text t.0, t.1)
 value_at (suc (suc (suc (suc tag))) ∷ rest) = Err (suc (length rest))
 
+-- a header whose name is none of those that are taken
 unfoldable pub header_at : List (List ℕ) → List ℕ → Read Header
 header_at taken bytes = do
   name ← name_at taken bytes
@@ -93,6 +98,7 @@ headers_at (suc n) taken bytes = do
   others ← headers_at n (taken ++ first.0.name ∷ []) first.1
   Ok (first.0 ∷ others.0, others.1)
 
+-- the fields of a message, in their order
 unfoldable pub content_at : List ℕ → Read Content
 content_at bytes = do
   id ← number_at w64 bytes
@@ -115,18 +121,22 @@ message_of bytes = if nat_lt 1048576 (length bytes) then Err 1048576 else ended 
 
 -- ---- What a function returned, seen by view, is what reading gives, unless memory ran out.
 
+-- a function that failed tells the fault of the reading
 abbrev pub Leaves : {Y : Type 0} → ReadFault → Result Y ℕ → Type 0
 Leaves read.NoMemory r = Unit {0}
 Leaves (read.Left left) r = r ≡ Err left
 
+-- a function tells what the reading gives
 abbrev pub Gives : {X Y : Type 0} → (X → Y) → Result X ReadFault → Result Y ℕ → Type 0
 Gives view (Ok x) r = r ≡ Ok (view x)
 Gives view (Err e) r = Leaves e r
 
+-- decode tells the place of the first fault
 abbrev pub Refuses : DecodeFault → Result Content ℕ → Type 0
 Refuses (NotMessage at) r = r ≡ Err at
 Refuses NoMemory r = Unit {0}
 
+-- decode tells the message or the place of the first fault
 abbrev pub Decodes : Result Content DecodeFault → Result Content ℕ → Type 0
 Decodes (Ok m) r = r ≡ Ok m
 Decodes (Err e) r = Refuses e r

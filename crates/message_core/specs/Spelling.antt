@@ -15,11 +15,13 @@ pub record Content : Type 0 where
   pub headers : List Header
   pub body : List ℕ
 
+-- the message of these parts
 abbrev pub parts : ℕ → Bool → ℕ → List Header → List ℕ → Content
 parts id persistent priority headers body = record { id = id; persistent = persistent; priority = priority; headers = headers; body = body }
 
 -- ---- the bytes
 
+-- 0 for no, 1 for yes
 abbrev pub flag_byte : Bool → ℕ
 flag_byte false = 0
 flag_byte true = 1
@@ -38,6 +40,7 @@ value_bytes (value.Text t) = 3 ∷ text_bytes t
 abbrev pub header_bytes : Header → List ℕ
 header_bytes h = (length h.name ∷ h.name) ++ value_bytes h.value
 
+-- the number of headers, and each header in order
 abbrev pub headers_bytes : List Header → List ℕ
 headers_bytes hs = to_be_bytes w16 (length hs) ++ flat_map header_bytes hs
 
@@ -49,14 +52,17 @@ front m = to_be_bytes w64 m.id ++ (flag_byte m.persistent ∷ m.priority ∷ [])
 abbrev pub cut : Content → List ℕ
 cut m = front m ++ to_be_bytes w32 (length m.body)
 
+-- all bytes of a message: its encoding
 abbrev pub content : Content → List ℕ
 content m = cut m ++ m.body
 
 -- ---- what has them
 
+-- the names of headers, in order
 abbrev pub names : List Header → List (List ℕ)
 names hs = map (λ h. h.name) hs
 
+-- a text is UTF-8
 abbrev pub IsText : HeaderValue → Type 0
 IsText (value.Bool b) = Unit {0}
 IsText (value.Int n) = Unit {0}
@@ -73,11 +79,13 @@ IsNumber (value.Bool b) = Unit {0}
 IsNumber (value.Int n) = FitsSigned w64 n
 IsNumber (value.Text t) = Unit {0}
 
+-- a header that a message may have
 pub record IsHeader (h : Header) : Type 0 where
   pub short : length h.name ≤ 255
   pub readable : IsReadable h
   pub number : IsNumber h.value
 
+-- each limit of a message is kept
 pub record IsMessage (m : Content) : Type 0 where
   pub id : m.id < 2 ^ 64
   pub priority : m.priority ≤ 9
@@ -87,7 +95,7 @@ pub record IsMessage (m : Content) : Type 0 where
   pub distinct : IsDistinct bytes_eq (names m.headers)
   pub short : length (content m) ≤ 1048576
 
--- the value of the header with this name
+-- the value of the first header with this name, or none
 abbrev pub value_of : List ℕ → List Header → Option HeaderValue
 value_of name [] = None
 value_of name (h ∷ hs) = if bytes_eq h.name name then Some h.value else value_of name hs

@@ -153,7 +153,7 @@ impl Message {
         self.priority
     }
 
-    /// The value of the header with this name; None exactly where no header has it.
+    /// The value of the header with exactly the bytes of this name; None exactly where no header has it.
     pub fn header(&self, name: &[u8]) -> Option<&HeaderValue>
         ensures { option_copied result ≡ value_of name.now self.now.headers }
     {
@@ -165,14 +165,14 @@ impl Message {
         None
     }
 
-    /// The body.
+    /// The bytes of the body.
     pub fn body(&self) -> &[u8]
         ensures { result.now ≡ self.now.body }
     {
         self.body.as_slice()
     }
 
-    /// Makes the body empty and gives its memory up. Takes no memory.
+    /// Makes the body empty and gives its memory up; all else stays. Takes no memory.
     pub fn clear_body(&mut self)
         ensures { self.new ≡ record self.old { body = [] } }
     {
