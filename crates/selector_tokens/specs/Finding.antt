@@ -5,7 +5,8 @@ use Rattle.selector_tokens.specs.declared.found.Unread.{Unread}
 use Rattle.selector_tokens.specs.declared.found.Unread.TheVariants.{Fault, NoMemory}
 use Rattle.selector_tokens.specs.Lexing.{First, found, fault}
 
--- It answers the first token and how many bytes that takes, or the fault where none can be read. Want of memory may come in place of either.
+-- It answers the first token and how many bytes that takes, or the fault where none can be read.
+-- Want of memory may come in place of either.
 abbrev pub Finds : Result Found Unread → First → Type 0
 Finds (Ok f) first = first ≡ found f.token f.takes
 Finds (Err (Fault kind)) first = first ≡ fault kind

@@ -18,8 +18,8 @@ text_of lexer = lexer.text.now
 abbrev pub bytes_left : Lexer → ℕ
 bytes_left lexer = length (drop lexer.at lexer.text.now)
 
--- A token is the next one; none comes exactly at the end of a text without a fault; a fault is the one at which the tokens stop. Only a token changes
--- what is still to come. Want of memory may come in place of any.
+-- A token is the next one; none comes exactly at the end of a text without a fault; a fault is the one at which the
+-- tokens stop. Only a token changes what is still to come. Want of memory may come in place of any.
 abbrev pub IsNext : Lexer → Lexer → Result (Option Placed) SelectorFault → Type 0
 IsNext old new (Ok (Some p)) = ahead old ≡ then_lexed p.at p.token (ahead new)
 IsNext old new (Ok None) = (ahead old ≡ stops (length (text_of old)) None) × (ahead new ≡ ahead old)

@@ -19,15 +19,18 @@ use Rattle.selector_tokens.specs.declared.tokens.Placed.{Placed}
 abbrev pub begins_name : ℕ → Bool
 begins_name c = is_ascii_alphabetic c || (c == 95 || c == 36)
 
+-- what an identifier goes on with: these and digits
 abbrev pub is_name_byte : ℕ → Bool
 is_name_byte c = begins_name c || is_ascii_digit c
 
+-- the reserved words, in small letters
 abbrev pub reserved_words : List (List ℕ × Word)
 reserved_words =
     (codes "and", reserved.And) ∷ (codes "or", reserved.Or) ∷ (codes "not", reserved.Not) ∷ (codes "between", reserved.Between)
     ∷ (codes "in", reserved.In) ∷ (codes "like", reserved.Like) ∷ (codes "escape", reserved.Escape) ∷ (codes "is", reserved.Is)
     ∷ (codes "null", reserved.Null) ∷ (codes "true", reserved.True) ∷ (codes "false", reserved.False) ∷ []
 
+-- the word whose letters these are
 abbrev pub word_among : List (List ℕ × Word) → List ℕ → Option Word
 word_among [] letters = None
 word_among (entry ∷ entries) letters = if bytes_eq letters entry.0 then Some entry.1 else word_among entries letters
@@ -36,6 +39,7 @@ word_among (entry ∷ entries) letters = if bytes_eq letters entry.0 then Some e
 unfoldable pub word_of : List ℕ → Option Word
 word_of letters = word_among reserved_words (map to_ascii_lowercase letters)
 
+-- letters as a token: a reserved word if they are one, and else an identifier
 abbrev pub name_or_word : List ℕ → Option Word → Token
 name_or_word letters None = token.Name letters
 name_or_word letters (Some word) = token.Word word
@@ -48,15 +52,17 @@ pub data First : Type 0 where
   -- no token can be read here
   fault : Kind → First
 
--- a text's first byte, if it is this one
+-- whether a text's first byte is this one
 abbrev pub begins_with : ℕ → List ℕ → Bool
 begins_with c [] = false
 begins_with c (b ∷ bs) = b == c
 
+-- whether a text's first byte passes
 abbrev pub begins_with_any : (ℕ → Bool) → List ℕ → Bool
 begins_with_any passes [] = false
 begins_with_any passes (b ∷ bs) = passes b
 
+-- a text that begins with just these letters
 abbrev pub name_first : List ℕ → First
 name_first letters = found (name_or_word letters (word_of letters)) (length letters)
 
@@ -70,10 +76,12 @@ number_first digits behind =
     if begins_with_any is_float_byte behind then fault FloatLiteral
     else if nat_lt (digits_value 10 digits) (2 ^ 63) then found (token.Number (pos (digits_value 10 digits))) (length digits) else fault IntRange
 
+-- a string with one character more in front, which takes n bytes of the text
 abbrev pub longer : ℕ → ℕ → List ℕ × ℕ → List ℕ × ℕ
 longer c n string = (c ∷ string.0, n + string.1)
 
--- behind an opening quote: what the string says, with each doubled quote once, and how many bytes it takes with its closing quote
+-- behind an opening quote: what the string says, with each doubled quote once, and how many bytes it takes with its
+-- closing quote
 unfoldable pub string_in : List ℕ → Option (List ℕ × ℕ)
 string_in [] = None
 string_in (c ∷ []) = if c == 39 then Some ([], 1) else None
@@ -81,6 +89,7 @@ string_in (c ∷ d ∷ cs) =
     if c == 39 then (if d == 39 then option_map (longer 39 2) (string_in cs) else Some ([], 1))
     else option_map (longer c 1) (string_in (d ∷ cs))
 
+-- a string, if it has a closing quote; it takes its opening quote too
 abbrev pub string_first : Option (List ℕ × ℕ) → First
 string_first None = fault OpenString
 string_first (Some string) = found (token.Text string.0) (suc string.1)
@@ -101,7 +110,8 @@ sign_first c behind =
     else if c == 46 && begins_with_any is_ascii_digit behind then fault FloatLiteral
     else fault BadChar
 
--- the first token of a text that begins with the byte c, which is no white space; `close` says that a number ends just before it
+-- the first token of a text that begins with the byte c, which is no white space; `close` says that a number ends
+-- just before it
 unfoldable pub first_token : Bool → ℕ → List ℕ → First
 first_token close c cs =
     if begins_name c then (if close then fault BadChar else name_first (take_while is_name_byte (c ∷ cs)))
@@ -121,12 +131,15 @@ pub record Lexed : Type 0 where
   pub tokens : List Placed
   pub stop : Stop
 
+-- no token, and this at the end
 abbrev pub stops : ℕ → Option Kind → Lexed
 stops at why = record { tokens = []; stop = record { at = at; fault = why } }
 
+-- one token more in front
 abbrev pub then_lexed : ℕ → Token → Lexed → Lexed
 then_lexed at t rest = record rest { tokens = record { at = at; token = t } ∷ rest.tokens }
 
+-- a number, which no identifier may directly follow
 abbrev pub is_number : Token → Bool
 is_number (token.Number n) = true
 is_number other = false
@@ -142,5 +155,6 @@ lexed_from zero close at (c ∷ cs) =
       | fault kind ↦ stops at (Some kind)
     ]
 
+-- the tokens of a whole text, and what stands at their end
 abbrev pub lexed : List ℕ → Lexed
 lexed text = lexed_from 0 false 0 text

@@ -11,7 +11,7 @@ use crate::{Lexer, Placed, SelectorFault};
 use std::alloc::Global;
 
 impl<'a> Lexer<'a> {
-    /// A lexer at the beginning of the text.
+    /// A lexer at the beginning of the text. Takes no memory.
     pub fn of(text: &'a str) -> Lexer<'a>
         ensures ahead { ahead result ≡ lexed text.now }
         ensures text { text_of result ≡ text.now }
@@ -38,7 +38,8 @@ impl<'a> Lexer<'a> {
     }
 
     /// The next token, or none at the end of the text, or the fault of the place where no token can be read.
-    /// It takes memory for the bytes of a name or a string.
+    /// Only a token is passed: the end and a fault come again, and after NoMemory the same token is still to come.
+    /// A text of any length is read. It takes memory for the bytes of a name or a string.
     pub fn next(&mut self, alloc: Global) -> Result<Option<Placed>, SelectorFault>
         ensures next { IsNext self.old self.new result }
         ensures text { text_of self.new ≡ text_of self.old }
