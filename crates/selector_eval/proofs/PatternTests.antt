@@ -76,7 +76,8 @@ fits_none e p rest part h ne = rw h (no_place part (parts e rest) ne)
 pub some_onwards : (e : Option ℕ) (p rest : List ℕ) (part : Part) (c : ℕ) (t : List ℕ) → parts e p ≡ part ∷ parts e rest → part ≢ Any → some_rest (fits e p) (c ∷ t) ≡ true → some_rest (fits e rest) t ≡ true
 some_onwards e p rest part c t h ne = some_behind (fits e p) (fits e rest) (fits_none e p rest part h ne) (λ d u fit. (and_parts (stands_for part d) (fits e rest u) (sym (fits_one e p rest part d u h ne) ∙ fit)).1) c t
 
--- the text fits where its first characters and the pattern's first places are taken off, and what fits somewhere still does
+-- the text fits where its first characters and the pattern's first places are taken off, and what fits somewhere still
+-- does
 pub record Onwards (e : Option ℕ) (whole_pattern whole_text pattern text : List ℕ) : Type 0 where
   pub here : fits e whole_pattern whole_text ≡ fits e pattern text
   pub somewhere : some_rest (fits e whole_pattern) whole_text ≡ true → some_rest (fits e pattern) text ≡ true

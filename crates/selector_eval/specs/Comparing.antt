@@ -24,6 +24,7 @@ sameness_passes LessEqual same = false
 sameness_passes Greater same = false
 sameness_passes GreaterEqual same = false
 
+-- whether two truth values are the same
 abbrev pub same_truth : Bool → Bool → Bool
 same_truth true b = b
 same_truth false b = not b

@@ -24,6 +24,7 @@ header_value (Some (header.Bool b)) = truth b
 header_value (Some (header.Int n)) = number n
 header_value (Some (header.Text s)) = text s
 
+-- the text of a delivery mode
 abbrev pub delivery_mode : Bool → List ℕ
 delivery_mode persistent = if persistent then codes "PERSISTENT" else codes "NON_PERSISTENT"
 
@@ -56,6 +57,7 @@ alike escape pattern (truth b) = truth false
 alike escape pattern (number n) = truth false
 alike escape pattern (text s) = truth (fits escape (characters pattern) (characters s))
 
+-- whether a value is null
 abbrev pub is_null : Value → Bool
 is_null null = true
 is_null (truth b) = false
@@ -69,6 +71,7 @@ null_test true v = truth (not (is_null v))
 
 -- ---- each form of expression
 
+-- the value of an expression, by its form
 abbrev pub value_of : Tree → Content → Value
 value_of (tree.int n) m = number n
 value_of (tree.text s) m = text s

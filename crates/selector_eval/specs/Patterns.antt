@@ -9,10 +9,12 @@ percent = 37
 abbrev pub underscore : ℕ
 underscore = 95
 
+-- whether this is the escape character
 abbrev pub is_escape : Option ℕ → ℕ → Bool
 is_escape None c = false
 is_escape (Some e) c = c == e
 
+-- % and _
 abbrev pub is_wildcard : ℕ → Bool
 is_wildcard c = (c == percent) || (c == underscore)
 
@@ -48,6 +50,7 @@ abbrev pub some_rest : (List ℕ → Bool) → List ℕ → Bool
 some_rest passes [] = passes []
 some_rest passes (c ∷ t) = passes (c ∷ t) || some_rest passes t
 
+-- whether nothing is left of a text
 abbrev pub is_empty : List ℕ → Bool
 is_empty [] = true
 is_empty (c ∷ t) = false
@@ -57,10 +60,12 @@ abbrev pub behind : ℕ → (List ℕ → Bool) → List ℕ → Bool
 behind c passes [] = false
 behind c passes (d ∷ t) = (d == c) && passes t
 
+-- the text passes behind its first character, whichever that is
 abbrev pub behind_one : (List ℕ → Bool) → List ℕ → Bool
 behind_one passes [] = false
 behind_one passes (d ∷ t) = passes t
 
+-- whether the whole text fits what these places stand for, one after the other
 abbrev pub parts_fit : List Part → List ℕ → Bool
 parts_fit [] t = is_empty t
 parts_fit (Any ∷ ps) t = some_rest (parts_fit ps) t

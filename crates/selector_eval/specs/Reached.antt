@@ -1,4 +1,5 @@
--- How a text goes with the beginning of a pattern, by what the crate's own functions answer. Texts and patterns are bytes here.
+-- How a text goes with the beginning of a pattern, by what the crate's own functions answer. Texts and patterns are
+-- bytes here.
 use Rattle.std.specs.Prelude.{◌≡◌, ℕ, ◌<◌, ◌≤◌, true, false, List, [], length, Option}
 use Rattle.std.specs.Str.{chars}
 use Rattle.selector_eval.specs.declared.patterns.Reached.{Reached}
@@ -11,13 +12,15 @@ IsAfterPercent behind text Fits = behind ≡ []
 IsAfterPercent behind text Fails = ⊥
 IsAfterPercent behind text (Open p t) = (p.now ≡ behind) × (t.now ≡ text)
 
--- the text fits the pattern, and some rest of it does, exactly where some rest of `text` fits what is left of the pattern
+-- the text fits the pattern, and some rest of it does, exactly where some rest of `text` fits what is left of the
+-- pattern
 pub record LeadsTo (escape : Option ℕ) (whole_pattern whole_text pattern text : List ℕ) : Type 0 where
   pub here : fits escape (chars whole_pattern) (chars whole_text) ≡ some_rest (fits escape (chars pattern)) (chars text)
   pub somewhere : some_rest (fits escape (chars whole_pattern)) (chars whole_text) ≡ some_rest (fits escape (chars pattern)) (chars text)
   pub shorter_pattern : length pattern < length whole_pattern
   pub no_longer : length text ≤ length whole_text
 
+-- what is answered of a text and a pattern is so
 abbrev pub Tells : Option ℕ → List ℕ → List ℕ → Reached → Type 0
 Tells escape pattern text Fits = fits escape (chars pattern) (chars text) ≡ true
 Tells escape pattern text Fails = fits escape (chars pattern) (chars text) ≡ false

@@ -4,6 +4,7 @@ use Rattle.selector_eval.specs.declared.values.Value as program
 use Rattle.selector_eval.specs.declared.values.Value.TheVariants as held
 use Rattle.selector_eval.specs.Values.{Value, null, truth, number, text}
 
+-- a value of the program as a value
 abbrev pub seen : program.Value → Value
 seen held.Null = null
 seen (held.Bool b) = truth b

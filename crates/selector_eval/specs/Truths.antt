@@ -3,11 +3,13 @@ use Rattle.selector_eval.specs.declared.truths.Truth.{Truth}
 use Rattle.selector_eval.specs.declared.truths.Truth.TheVariants.{True, False, Unknown}
 use Rattle.selector_eval.specs.Values.{Value, truth_in, value_in}
 
+-- NOT turns what is known
 abbrev pub truth_not : Truth → Truth
 truth_not True = False
 truth_not False = True
 truth_not Unknown = Unknown
 
+-- AND is false where a side is false, and true where both are true
 abbrev pub truth_and : Truth → Truth → Truth
 truth_and True True = True
 truth_and True False = False
@@ -19,6 +21,7 @@ truth_and Unknown True = Unknown
 truth_and Unknown False = False
 truth_and Unknown Unknown = Unknown
 
+-- OR is true where a side is true, and false where both are false
 abbrev pub truth_or : Truth → Truth → Truth
 truth_or True True = True
 truth_or True False = True

@@ -10,6 +10,7 @@ pub data Value : Type 0 where
   number : ℤ → Value
   text : List ℕ → Value
 
+-- a truth value as one of three truths
 abbrev pub known : Bool → Truth
 known true = True
 known false = False
