@@ -1,3 +1,4 @@
+pub mod Both
 pub mod Runs
 pub mod Simple
 pub mod CommandLines

@@ -1,5 +1,5 @@
 -- one line of a run after another
-use Rattle.std.proofs.Common.{◌≡◌, ℕ, zero, suc, ◌+◌, ◌<◌, ◌≤◌, Bool, true, false, ◌&&◌, cond, Option, Some, None, List, [], ◌∷◌, ◌++◌, length, take, refl, sym, ap, subst, ◌∙◌, arith}
+use Rattle.std.proofs.Common.{◌≡◌, ℕ, zero, suc, ◌+◌, ◌<◌, ◌≤◌, Bool, true, false, cond, Option, Some, None, List, [], ◌∷◌, ◌++◌, length, take, refl, sym, ap, subst, ◌∙◌, arith}
 use Rattle.std.proofs.lemmas.List.{append_assoc, append-nil}
 use Rattle.std.proofs.lemmas.List.Elements.{All-append}
 use Rattle.std.proofs.lemmas.List.Sums.{sum_by-append, sum_by-cons}
@@ -24,6 +24,7 @@ use Rattle.report_core.specs.Words.{words}
 use Rattle.script_read.specs.declared.lines.Op.{Op}
 use Rattle.script_read.specs.declared.lines.What.{What}
 use Rattle.script_read.specs.declared.lines.What.TheVariants.{Put, Take, Close, Ack, Release, Lock, Unlock, Steal, Begin, Commit, Rollback}
+use Rattle.broker_top.proofs.Both.{both_second}
 use Rattle.broker_top.specs.declared.running.Running.{Running}
 use Rattle.broker_top.specs.Run.{Moment, actor, acts_of, answer_of, answers_text, final, given_after, history, meant, next, rest_of, resting_in, resting_of, run_text, start}
 use Rattle.broker_top.specs.Running.{Steps, is_put, is_served, moment_of, puts_in}
@@ -108,10 +109,6 @@ text_next name told old new given op ops s =
 -- a test that passes for all of a list passes for the rest of it
 pub served_rest : (op : Op) (ops : List Op) → list_all (λ (x : Op). is_served x.what) (op ∷ ops) ≡ true → list_all (λ (x : Op). is_served x.what) ops ≡ true
 served_rest op ops e = both_second (is_served op.what) (list_all (λ (x : Op). is_served x.what) ops) e
-  where
-    both_second : (a b : Bool) → (a && b) ≡ true → b ≡ true
-    both_second true b e = e
-    both_second false b e = absurd (cc)
 
 -- The rows that are left
 

@@ -14,20 +14,10 @@ use Rattle.script_read.specs.declared.faults.ScriptFault.{ScriptFault}
 use Rattle.script_read.specs.declared.lines.Line.{Line}
 use Rattle.script_read.specs.declared.lines.Line.TheVariants.{Rest, Doing}
 use Rattle.script_read.specs.declared.lines.Op.{Op}
+use Rattle.broker_top.proofs.Both.{both, both_first, both_second}
 use Rattle.broker_top.specs.Job.{actor_after, first_actor, first_unbuilt, is_run}
 use Rattle.broker_top.specs.Running.{is_served}
 use Rattle.broker_top.specs.Simple.{is_simple}
-
-both_first : (a b : Bool) → (a && b) ≡ true → a ≡ true
-both_first true b e = refl
-both_first false b e = e
-
-both_second : (a b : Bool) → (a && b) ≡ true → b ≡ true
-both_second true b e = e
-both_second false b e = absurd (true≢false (sym e))
-
-both : (a b : Bool) → a ≡ true → b ≡ true → (a && b) ≡ true
-both a b e f = rw (e, f) refl
 
 -- Each text was read as its line
 

@@ -33,6 +33,7 @@ list_of (Priority n) priority = list_among n priority
 list_of (Sorted key) priority = 0
 list_of (LastValue key) priority = 0
 
+-- the value of a header where there is one and it is a text
 abbrev pub text_in : Option HeaderValue → Option (List ℕ)
 text_in None = None
 text_in (Some (header.Bool b)) = None

@@ -108,7 +108,9 @@ fn read_expr(alloc: Global, text: &str) -> Result<Expr, SelectorFault>
     read_tokens(alloc, text)
 }
 
-/// The selector that a text is, or its first fault from the left (docs/SELECTORS.md).
+/// The selector that a text is. Refuses exactly where it is none, with what is first at fault from the left and its
+/// place, in bytes from 0; a text has at most 4,096 bytes, and at most 64 of its parentheses, NOTs and signs are
+/// unfinished at any place (JMS 1.1, section 3.8.1; docs/SELECTORS.md). NoMemory may come in place of either.
 pub fn read(alloc: Global, text: &str) -> Result<Selector, SelectorFault>
     ensures said { Reads result (selector_of text.now) }
     ensures means { Means text.now result }

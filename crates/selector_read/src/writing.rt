@@ -128,7 +128,8 @@ fn put(out: &mut Vec<u8>, expr: &Expr) -> Result<(), AllocError>
 }
 
 /// A text that stands for the selector: reserved words in capitals, one space between tokens, and parentheses only
-/// where they are needed. Where it is short enough to be read, it is read as the same selector.
+/// where they are needed (docs/SELECTORS.md, "Written back"). Where it has at most 4,096 bytes it is read as the same
+/// selector. Refuses only for want of memory.
 pub fn text(alloc: Global, selector: &Selector) -> Result<Bytes, NoMemory>
     ensures bytes { IfOk result (λ bytes. bytes ≡ text_at 1 selector.now) }
     ensures stands { IfOk result (λ bytes. StandsFor bytes selector.now) }
