@@ -7,16 +7,13 @@ use Rattle.fields_read.specs.Json.{json_of}
 use Rattle.defs_read.specs.Causes.{longest_line}
 use Rattle.defs_read.specs.Defined.{Defined}
 use Rattle.script_read.specs.Causes.{verb_in}
-use Rattle.script_read.specs.Parts.{value_said, what_by}
+use Rattle.script_read.specs.Parts.{value_said}
 use Rattle.script_read.specs.Reading.{Gives, unless, json_says, text_says}
-use Rattle.script_read.specs.Values.{line_by, line_in, doing}
+use Rattle.script_read.specs.Values.{line_by, line_in}
 use Rattle.script_read.specs.declared.faults.LineFault.{LineFault}
 use Rattle.script_read.specs.declared.faults.LineFault.TheVariants.{LineTooLong, NotJson, BadValue, MissingField, UnknownField, FloatNumber, UnknownQueue, UnknownConsumer, TooLong, NoJournal, DoubleId, TooManyActors, NoMemory}
 use Rattle.script_read.specs.declared.lines.Line.{Line}
-use Rattle.script_read.specs.declared.lines.Line.TheVariants as line
-use Rattle.script_read.specs.declared.lines.What.{What}
 use Rattle.script_read.specs.declared.tables.Verb.{Verb}
-use Rattle.script_read.specs.declared.tables.Verb.TheVariants.{Put, Take, Close, Ack, Release, Lock, Unlock, Steal, Begin, Commit, Rollback, Rest}
 
 -- ---- refusals
 
@@ -84,25 +81,6 @@ pub no_text : {A : Type 0} (text : List ℕ) (why : LineFault) (fault : Data →
 no_text text why fault value is = no_text_by (nat_lt longest_line (length text)) (json_of text) why fault value is
 
 -- ---- lines
-
--- the line that does this
-abbrev pub line_for : ℕ → Data → Option What → Line
-line_for n d None = line.Rest
-line_for n d (Some w) = doing n d w
-
-pub line_is : (queues : List Defined) (n : ℕ) (d : Data) (v : Verb) → line_by queues n d v ≡ line_for n d (what_by queues d v)
-line_is queues n d Put = refl
-line_is queues n d Take = refl
-line_is queues n d Close = refl
-line_is queues n d Ack = refl
-line_is queues n d Release = refl
-line_is queues n d Lock = refl
-line_is queues n d Unlock = refl
-line_is queues n d Steal = refl
-line_is queues n d Begin = refl
-line_is queues n d Commit = refl
-line_is queues n d Rollback = refl
-line_is queues n d Rest = refl
 
 pub line_of_verb : (queues : List Defined) (n : ℕ) (d : Data) (v : Verb) → verb_in d ≡ Some v → line_in queues n d ≡ line_by queues n d v
 line_of_verb queues n d v is = rw is refl

@@ -36,6 +36,7 @@ queue_named queues d = position (λ q. bytes_eq q.name (unwrap_or (text_at Queue
 abbrev pub consumer_named : List Defined → Data → Option ℕ
 consumer_named queues d = option_map (λ c. c.number) (find (λ c. bytes_eq c.name (unwrap_or (text_at Consumer d) []) && bytes_eq c.actor (unwrap_or (text_at Actor d) [])) (consumers_in queues))
 
+-- whether it is put
 abbrev pub is_put : Verb → Bool
 is_put verb.Put = true
 is_put v = false
@@ -50,6 +51,7 @@ verb_causes queues d v =
     ∷ cause_if (is_put v && is_too_long (message_of d)) TooLong
     ∷ []
 
+-- the first cause of a line that does this, or that does nothing which a line may do
 abbrev pub verb_fault : List Defined → Data → Option Verb → Option LineFault
 verb_fault queues d None = Some BadValue
 verb_fault queues d (Some v) = first_of (verb_causes queues d v)

@@ -1,5 +1,5 @@
 -- reading one line, part by part
-use Rattle.std.specs.Prelude.{ℕ, ◌&&◌, Bool, List, [], ◌∷◌, length, not, nat_lt, if◌then◌else◌, Option, Some, None, is_some, option_map, unwrap_or, Result, Err}
+use Rattle.std.specs.Prelude.{ℕ, ◌&&◌, Bool, List, [], ◌∷◌, length, not, nat_lt, if◌then◌else◌, Option, is_some, option_map, unwrap_or, Result, Err}
 use Rattle.std.specs.Option.{ok_or}
 use Rattle.serde_json.specs.Data.{Data}
 use Rattle.fields_read.specs.Faults.{cause_if, presence_fault, values_fault}
@@ -7,7 +7,7 @@ use Rattle.fields_read.specs.Fields.{value_at, number_at, text_at}
 use Rattle.fields_read.specs.Forms.{first_of}
 use Rattle.fields_read.specs.Json.{json_of}
 use Rattle.fields_read.specs.declared.fields.Field.{Field}
-use Rattle.fields_read.specs.declared.fields.Field.TheVariants.{Do, Queue, Consumer, Id, Priority}
+use Rattle.fields_read.specs.declared.fields.Field.TheVariants.{Do, Queue, Consumer, Priority}
 use Rattle.defs_read.specs.Causes.{is_object, longest_line}
 use Rattle.defs_read.specs.Defined.{Defined}
 use Rattle.script_read.specs.Causes.{of_field, verb_in, queue_named, consumer_named, is_put}
@@ -17,10 +17,6 @@ use Rattle.script_read.specs.Tables.{fields_of, required_of, message_fields, mes
 use Rattle.script_read.specs.declared.faults.LineFault.{LineFault}
 use Rattle.script_read.specs.declared.faults.LineFault.TheVariants.{LineTooLong, NotJson, BadValue, MissingField, UnknownQueue, UnknownConsumer, TooLong, NoMemory}
 use Rattle.script_read.specs.declared.tables.Verb.{Verb}
-use Rattle.script_read.specs.declared.tables.Verb.TheVariants.{Put, Take, Close, Ack, Release, Lock, Unlock, Steal, Begin, Commit, Rollback, Rest}
-use Rattle.script_read.specs.declared.lines.What.{What}
-use Rattle.script_read.specs.declared.lines.What.TheVariants as what
-use Rattle.script_read.specs.Values.{queue_number, consumer_number}
 use Rattle.message_core.specs.Spelling.{Content}
 use Rattle.message_core.specs.declared.faults.MessageFault.{MessageFault}
 use Rattle.message_core.specs.declared.faults.MessageFault.TheVariants as fault
@@ -76,21 +72,6 @@ priority_in d = unwrap_or (number_at Priority d) 4
 abbrev pub text_or_none : Field → Data → List ℕ
 text_or_none f d = unwrap_or (text_at f d) []
 
--- the cause of a line that does this which comes last
+-- the last cause that a line may have which does this
 abbrev pub late_fault : Data → Verb → Option LineFault
 late_fault d v = cause_if (is_put v && is_too_long (message_of d)) TooLong
-
--- what the line does by this verb; none where it is a rest
-abbrev pub what_by : List Defined → Data → Verb → Option What
-what_by queues d Put = Some (what.Put (queue_number queues d) (message_of d))
-what_by queues d Take = Some (what.Take (consumer_number queues d))
-what_by queues d Close = Some (what.Close (consumer_number queues d))
-what_by queues d Ack = Some (what.Ack (queue_number queues d) (number_at Id d))
-what_by queues d Release = Some (what.Release (queue_number queues d) (number_at Id d))
-what_by queues d Lock = Some (what.Lock (queue_number queues d) (number_at Id d))
-what_by queues d Unlock = Some (what.Unlock (queue_number queues d) (number_at Id d))
-what_by queues d Steal = Some (what.Steal (queue_number queues d) (unwrap_or (number_at Id d) 0))
-what_by queues d Begin = Some what.Begin
-what_by queues d Commit = Some what.Commit
-what_by queues d Rollback = Some what.Rollback
-what_by queues d Rest = None

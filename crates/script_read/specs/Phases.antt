@@ -36,10 +36,12 @@ phases_with begun (Doing op ∷ ls) = phases_with (filed op begun) ls
 abbrev pub phases_of : List Line → List Actors
 phases_of ls = phases_with [] ls
 
--- a script as contracts see it
+-- ---- a script as contracts see it
 
+-- the actors of a phase that was read
 abbrev pub actors_in : Phase → Actors
 actors_in phase = map (λ actor. (actor.0, actor.1.items)) phase.actors.items
 
+-- the phases of a script that was read
 abbrev pub phases_in : Script → List Actors
 phases_in script = map actors_in script.phases.items

@@ -21,11 +21,12 @@ use Rattle.script_read.specs.declared.scripts.Script.{Script}
 abbrev pub most_actors : ℕ
 most_actors = 32
 
--- whether this puts a message of this id to this queue
+-- whether what an actor does puts a message of this id to this queue
 abbrev pub is_put_of : ℕ → ℕ → What → Bool
 is_put_of queue id (Put q m) = (q == queue) && (m.id == id)
 is_put_of queue id w = false
 
+-- whether this line does
 abbrev pub puts_this : ℕ → ℕ → Line → Bool
 puts_this queue id Rest = false
 puts_this queue id (Doing op) = is_put_of queue id op.what
@@ -35,6 +36,7 @@ abbrev pub put_causes : Bool → List Line → What → List (Option LineFault)
 put_causes journal before (Put queue m) = cause_if (m.persistent && not journal) NoJournal ∷ cause_if (list_any (puts_this queue m.id) before) DoubleId ∷ []
 put_causes journal before w = []
 
+-- whether an actor of this name is among these
 abbrev pub is_in_phase : List ℕ → Actors → Bool
 is_in_phase name actors = list_any (λ actor. bytes_eq actor.0 name) actors
 
@@ -65,7 +67,8 @@ script_after queues journal before (text ∷ texts) = goes_on text.0 (line_after
 abbrev pub script_of : List Defined → Bool → ℕ → List ℕ → Result (List Line) ScriptFault
 script_of queues journal n bytes = script_after queues journal [] (numbered n (lines_of bytes))
 
--- The answer has the phases of the script's lines, or the first line that is refused with its cause. Want of memory may come in place of any.
+-- The answer has the phases of the script's lines, or the first line that is refused with its cause.
+-- Want of memory may come in place of any.
 abbrev pub GivesScript : Result Script ScriptFault → Result (List Line) ScriptFault → Type 0
 GivesScript (Ok script) said = (ls : List Line) × (said ≡ Ok ls) × (phases_in script ≡ phases_of ls)
 GivesScript (Err fault) said = (fault.cause ≡ NoMemory → ⊥) → said ≡ Err fault

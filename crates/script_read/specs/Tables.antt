@@ -40,9 +40,10 @@ required_of Commit = field.Actor ∷ []
 required_of Rollback = field.Actor ∷ []
 required_of Rest = []
 
--- the fields of a message that stands by itself, and the one that must stand
+-- the fields of a message that stands by itself
 abbrev pub message_fields : List Field
 message_fields = field.Id ∷ field.Persistent ∷ field.Priority ∷ field.Headers ∷ field.Body ∷ []
 
+-- the one of them that must stand
 abbrev pub message_required : List Field
 message_required = field.Id ∷ []

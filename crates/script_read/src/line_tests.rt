@@ -10,8 +10,8 @@ use std::alloc::{AllocError, Global};
 use std::process::Abort;
 use std::test::*;
 
-/// The line, its actor, and what it does there. Queue `p` is number 0 and `q` number 1; consumer `c` of the actor `a` is
-/// number 0, `d` of `b` number 1, and `e` of `a` number 2.
+/// The line, its actor, and what it does there. Queue `p` is number 0 and `q` number 1; consumer `c` of the actor `a`
+/// is number 0, `d` of `b` number 1, and `e` of `a` number 2.
 const DEEDS: &[(&str, &str, &str)] = &[
     (
         r#"{"do":"take","actor":"a","consumer":"c"}"#,
@@ -284,7 +284,8 @@ const TWO_CAUSES: &[(&str, LineFault)] = &[
     ),
 ];
 
-/// The beginning of a put with a header whose name is too long and what is behind the name, and the cause that is given.
+/// The beginning of a put with a header whose name is too long and what is behind the name, and the cause that is
+/// given.
 const BESIDE_TOO_LONG: &[(&str, &str, LineFault)] = &[
     (
         r#"{"do":"put","actor":"a","queue":"q","id":1,"headers":{""#,

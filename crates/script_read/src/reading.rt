@@ -4,10 +4,10 @@ ghost use Rattle.serde_json.specs.View.{view};
 ghost use Rattle.fields_read.specs.Faults.{values_fault};
 ghost use Rattle.defs_read.specs.Defined.{queues_in};
 ghost use Rattle.script_read.specs.Causes.{line_fault};
-ghost use Rattle.script_read.specs.Parts.{late_fault, value_said, what_by};
+ghost use Rattle.script_read.specs.Parts.{late_fault, value_said};
 ghost use Rattle.script_read.specs.Reading.{Gives, line_says, message_says, unless};
 ghost use Rattle.script_read.specs.Tables.{fields_of};
-ghost use Rattle.script_read.specs.Values.{consumer_number, line_by, line_in, queue_number};
+ghost use Rattle.script_read.specs.Values.{consumer_number, line_by, line_in, queue_number, what_by};
 
 use crate::checks::{check_line, check_message, consumer_named, queue_named, text_bytes, verb_of};
 use crate::faults::LineFault;

@@ -58,9 +58,10 @@ fn read_next(
     }
 }
 
-/// Reads all lines behind the definitions, the first of which has the number `from`. `journal` says whether the run
-/// has a journal. Refuses with the first line that has a cause, and the first of its causes in the order that
-/// docs/SCRIPT.md gives; NoMemory may come in place of any.
+/// Reads all lines behind the definitions, the first of which has the number `from`. Blank lines are counted and passed
+/// over. `journal` says whether the run has a journal. Refuses with the first line that has a cause, and the first of
+/// its causes in the order that docs/SCRIPT.md gives; NoMemory may come in place of any, and then the line tells
+/// nothing.
 pub fn read_script(
     alloc: Global,
     bytes: &[u8],
