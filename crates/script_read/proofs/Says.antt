@@ -12,7 +12,6 @@ use Rattle.script_read.specs.Reading.{Gives, unless, json_says, text_says}
 use Rattle.script_read.specs.Values.{line_by, line_in}
 use Rattle.script_read.specs.declared.faults.LineFault.{LineFault}
 use Rattle.script_read.specs.declared.faults.LineFault.TheVariants.{LineTooLong, NotJson, BadValue, MissingField, UnknownField, FloatNumber, UnknownQueue, UnknownConsumer, TooLong, NoJournal, DoubleId, TooManyActors, NoMemory}
-use Rattle.script_read.specs.declared.lines.Line.{Line}
 use Rattle.script_read.specs.declared.tables.Verb.{Verb}
 
 -- ---- refusals
