@@ -8,7 +8,7 @@ use Rattle.broker_top.specs.declared.input.Unread.{Unread}
 use Rattle.broker_top.specs.declared.input.Unread.TheVariants as unread
 use Rattle.broker_top.specs.declared.status.Status.{Status}
 use Rattle.broker_top.specs.declared.status.Status.TheVariants.{InputRefused, NoMemory}
-use Rattle.broker_top.specs.Ends.{Comes, IsRefused, Refuses, TaskEnds, Tells, TellsRefusal}
+use Rattle.broker_top.specs.Ends.{Comes, IsRefused, ReadFaults, Refuses, TaskEnds, Tells, TellsRefusal}
 use Rattle.broker_top.specs.Faults.{OfScript, fault_text, line_cause, line_text}
 use Rattle.broker_top.specs.Input.{IsTooLarge, LeavesUnread, input_limit, too_large_text}
 use Rattle.broker_top.specs.Job.{GivesJob, Lines}
@@ -16,28 +16,33 @@ use Rattle.broker_top.specs.Unread.{unread_status, unread_text}
 use Rattle.broker_top.specs.Words.{Task}
 
 module _ (task : Task) (result : Status) (left left' written written' : Option (List ℕ)) (f f' g g' : ℕ) where
-  pub wants_memory : Tells result NoMemory (codes "fault: memory\n") written written' g g' → TaskEnds task result left left' written written' f f' g g'
-  wants_memory tells = record { status = NoMemory; text = codes "fault: memory\n"; comes = refl; tells = tells }
+  pub wants_memory : f' ≡ f → Tells result NoMemory (codes "fault: memory\n") written written' g g' → TaskEnds task result left left' written written' f f' g g'
+  wants_memory kept tells = record { status = NoMemory; text = codes "fault: memory\n"; comes = refl; source = kept; tells = tells }
 
-  pub refusal : (text : List ℕ) → IsRefused task text left left' → Tells result InputRefused text written written' g g' → TaskEnds task result left left' written written' f f' g g'
-  refusal text refused tells = record { status = InputRefused; text = text; comes = refused; tells = tells }
+  pub refusal : (text : List ℕ) → f' ≡ f → IsRefused task text left left' → Tells result InputRefused text written written' g g' → TaskEnds task result left left' written written' f f' g g'
+  refusal text kept refused tells = record { status = InputRefused; text = text; comes = refused; source = kept; tells = tells }
 
-  unread_comes : (u : Unread) → (IsTooLarge too_large_text left left' → IsRefused task too_large_text left left') → LeavesUnread input_limit u left left' f f' → Comes task (unread_status u) (unread_text u) left left' f f'
-  unread_comes unread.TooLarge refused h = refused (record { front = h.0; read = h.1; large = h.2; told = refl })
-  unread_comes unread.Fault refused h = (h, refl)
+  unread_comes : (u : Unread) → (IsTooLarge too_large_text left left' → IsRefused task too_large_text left left') → LeavesUnread input_limit u left left' f f' → Comes task (unread_status u) (unread_text u) left left'
+  unread_comes unread.TooLarge refused h = refused (record { front = h.1.0; read = h.1.1; large = h.1.2; told = refl })
+  unread_comes unread.Fault refused h = refl
   unread_comes unread.NoMemory refused h = refl
+
+  unread_faults : (u : Unread) → LeavesUnread input_limit u left left' f f' → ReadFaults (unread_status u) f f'
+  unread_faults unread.TooLarge h = h.0
+  unread_faults unread.Fault h = h
+  unread_faults unread.NoMemory h = h
 
   pub unread_ends : (u : Unread) → (IsTooLarge too_large_text left left' → IsRefused task too_large_text left left') → LeavesUnread input_limit u left left' f f' → Tells result (unread_status u) (unread_text u) written written' g g'
       → TaskEnds task result left left' written written' f f' g g'
-  unread_ends u refused h tells = record { status = unread_status u; text = unread_text u; comes = unread_comes u refused h; tells = tells }
+  unread_ends u refused h tells = record { status = unread_status u; text = unread_text u; comes = unread_comes u refused h; source = unread_faults u h; tells = tells }
 
-  pub refusal_ends : (text : List ℕ) → IsRefused task text left left' → TellsRefusal text result written written' g g' → TaskEnds task result left left' written written' f f' g g'
-  refusal_ends text refused (inl tells) = refusal text refused tells
-  refusal_ends text refused (inr tells) = wants_memory tells
+  pub refusal_ends : (text : List ℕ) → f' ≡ f → IsRefused task text left left' → TellsRefusal text result written written' g g' → TaskEnds task result left left' written written' f f' g g'
+  refusal_ends text kept refused (inl tells) = refusal text kept refused tells
+  refusal_ends text kept refused (inr tells) = wants_memory kept tells
 
-  pub fault_ends : (fault : InputFault) → ((fault ≡ input.NoMemory → ⊥) → IsRefused task (fault_text fault) left left') → Refuses fault result written written' g g' → TaskEnds task result left left' written written' f f' g g'
-  fault_ends fault refused (inl told) = refusal (fault_text fault) (refused told.0) told.1
-  fault_ends fault refused (inr tells) = wants_memory tells
+  pub fault_ends : (fault : InputFault) → f' ≡ f → ((fault ≡ input.NoMemory → ⊥) → IsRefused task (fault_text fault) left left') → Refuses fault result written written' g g' → TaskEnds task result left left' written written' f f' g g'
+  fault_ends fault kept refused (inl told) = refusal (fault_text fault) kept (refused told.0) told.1
+  fault_ends fault kept refused (inr tells) = wants_memory kept tells
 
 -- a fault of an input that is no want of memory is what the input says
 pub err_says : (fault : InputFault) (said : Result Lines InputFault) → GivesJob (Err fault) said → (fault ≡ input.NoMemory → ⊥) → said ≡ Err fault

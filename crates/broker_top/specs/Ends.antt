@@ -41,19 +41,28 @@ abbrev pub IsRefused : Task → List ℕ → Option (List ℕ) → Option (List 
 IsRefused run text left left' = IsTooLarge text left left' ⊎ IsLineRefused text left left'
 IsRefused (select selector) text left left' = IsSelectorRefused selector text left left' ⊎ IsInputRefused selector text left left'
 
--- When a status comes of a task, and the text that goes with it: by what was read, and by the source's count of faults
-abbrev pub Comes : Task → Status → List ℕ → Option (List ℕ) → Option (List ℕ) → ℕ → ℕ → Type 0
-Comes task Done text left left' faults faults' = IsDone task text left left'
-Comes task InputRefused text left left' faults faults' = IsRefused task text left left'
-Comes task WordsRefused text left left' faults faults' = ⊥
-Comes task ReadFault text left left' faults faults' = (faults < faults') × (text ≡ codes "fault: read\n")
-Comes task NoMemory text left left' faults faults' = text ≡ codes "fault: memory\n"
-Comes task WriteFault text left left' faults faults' = ⊥
+-- when a status comes of a task, and the text that goes with it, by what was read
+abbrev pub Comes : Task → Status → List ℕ → Option (List ℕ) → Option (List ℕ) → Type 0
+Comes task Done text left left' = IsDone task text left left'
+Comes task InputRefused text left left' = IsRefused task text left left'
+Comes task WordsRefused text left left' = ⊥
+Comes task ReadFault text left left' = text ≡ codes "fault: read\n"
+Comes task NoMemory text left left' = text ≡ codes "fault: memory\n"
+Comes task WriteFault text left left' = ⊥
 
--- The status's text was written. Or the sink failed, and some front of the text that goes with another status was.
+-- the source's count of faults rose exactly where the status tells of it
+abbrev pub ReadFaults : Status → ℕ → ℕ → Type 0
+ReadFaults ReadFault faults faults' = faults < faults'
+ReadFaults Done faults faults' = faults' ≡ faults
+ReadFaults InputRefused faults faults' = faults' ≡ faults
+ReadFaults WordsRefused faults faults' = faults' ≡ faults
+ReadFaults NoMemory faults faults' = faults' ≡ faults
+ReadFaults WriteFault faults faults' = faults' ≡ faults
+
+-- The status's text was written, and the sink didn't fail. Or it failed, and some front of the text that goes with another status was written.
 abbrev pub Tells : Status → Status → List ℕ → Option (List ℕ) → Option (List ℕ) → ℕ → ℕ → Type 0
 Tells result status text written written' faults faults' =
-    ((result ≡ status) × Adds written written' text)
+    ((result ≡ status) × (faults' ≡ faults) × Adds written written' text)
     ⊎ ((result ≡ WriteFault) × (faults < faults') × ((n : ℕ) × (n ≤ length text) × Adds written written' (take n text)))
 
 -- this text of a refusal was told, or want of memory
@@ -69,10 +78,11 @@ Refuses fault result written written' faults faults' =
 pub record TaskEnds (task : Task) (result : Status) (left left' written written' : Option (List ℕ)) (read_faults read_faults' write_faults write_faults' : ℕ) : Type 0 where
   pub status : Status
   pub text : List ℕ
-  pub comes : Comes task status text left left' read_faults read_faults'
+  pub comes : Comes task status text left left'
+  pub source : ReadFaults status read_faults read_faults'
   pub tells : Tells result status text written written' write_faults write_faults'
 
 -- How a call ends, by the task that it was asked for. Where it was asked for none, the words are refused, and nothing was read.
 abbrev pub Ends : Option Task → Status → Option (List ℕ) → Option (List ℕ) → Option (List ℕ) → Option (List ℕ) → ℕ → ℕ → ℕ → ℕ → Type 0
-Ends None result left left' written written' read_faults read_faults' write_faults write_faults' = (left' ≡ left) × Tells result WordsRefused (codes "fault: words\n") written written' write_faults write_faults'
+Ends None result left left' written written' read_faults read_faults' write_faults write_faults' = (left' ≡ left) × (read_faults' ≡ read_faults) × Tells result WordsRefused (codes "fault: words\n") written written' write_faults write_faults'
 Ends (Some task) result left left' written written' read_faults read_faults' write_faults write_faults' = TaskEnds task result left left' written written' read_faults read_faults' write_faults write_faults'

@@ -1,6 +1,6 @@
 //! Reads the whole input, up to a limit.
-ghost use Rattle.std.specs.Prelude.{◌≡◌, ◌<◌, ◌≤◌, length, IfErr, IfOk, vec_len};
-ghost use Rattle.broker_top.specs.Input.{IsWhole, LeavesUnread, ReadsTurn, input_limit};
+ghost use Rattle.std.specs.Prelude.{◌≡◌, ◌<◌, length, IfErr, IfOk, OnOk, vec_len};
+ghost use Rattle.broker_top.specs.Input.{IsWhole, LeavesUnread, ReadsTurn, TurnFaults, input_limit};
 
 use outside_io::Source;
 use std::alloc::{AllocError, Global};
@@ -25,7 +25,7 @@ const CHUNK: usize = 65_536;
 /// Reads to the end of the source, or to the byte after the limit. Each turn takes a byte at least.
 pub(crate) fn read_input<S: Source>(alloc: Global, source: &mut S) -> Result<Vec<u8>, Unread>
     ensures whole { IfOk result (λ bytes. IsWhole bytes.items (S.left source.old) (S.left source.new)) }
-    ensures faults { S.faults source.old ≤ S.faults source.new }
+    ensures kept { OnOk result (S.faults source.new ≡ S.faults source.old) }
     ensures unread { IfErr result (λ unread. LeavesUnread input_limit unread (S.left source.old) (S.left source.new) (S.faults source.old) (S.faults source.new)) }
 {
     let Ok(mut chunk) = zeros(alloc, CHUNK) else {
@@ -63,8 +63,7 @@ enum Turn {
 fn read_turn<S: Source>(source: &mut S, buffer: &mut [u8], kept: &mut Vec<u8>) -> Turn
     requires { 0 < length buffer.old }
     ensures told { ReadsTurn (length buffer.old) result (S.left source.old) (S.left source.new) kept.old.items kept.new.items }
-    ensures faults { S.faults source.old ≤ S.faults source.new }
-    ensures fault { result ≡ Turn.Fault → S.faults source.old < S.faults source.new }
+    ensures faults { TurnFaults result (S.faults source.old) (S.faults source.new) }
 {
     match source.read(buffer) {
         Ok(0) => Turn::End,

@@ -5,7 +5,7 @@ use Rattle.broker_top.proofs.input.read_input.Given as goal
 abbrev pub invariant-reading : goal.invariant-reading
 invariant-reading g l = record {
   taken : Takes (g.S.Source.left l.fn.source) (g.S.Source.left l.source) l.kept.items;
-  faults : g.S.Source.faults l.fn.source ≤ g.S.Source.faults l.source;
+  faults : g.S.Source.faults l.source ≡ g.S.Source.faults l.fn.source;
   within : vec_len l.kept ≤ 67108864 + 1;
   chunk : vec_len l.chunk ≡ 65536;
 }

@@ -14,7 +14,7 @@ returns-in-Err-Bad g c =
     let said : selector_of c.args.text.now ≡ refused at kind = rw c.in-Err-Bad.field-0-is at c.in-Err-Bad.ensures.said in
     let means : IsOutcome c.args.text.now (refused at kind) = rw c.in-Err-Bad.field-0-is at c.in-Err-Bad.ensures.means in
     let is : IsRead c.args.text.now (refused at kind) = record { said = said; means = means } in
-    refusal_ends (select c.args.text.now) _ _ _ _ _ _ _ _ _ (selector_text at kind) (inl (record { at = at; kind = kind; is = is; unread = refl; told = refl })) c.refuse_selector.ensures
+    refusal_ends (select c.args.text.now) _ _ _ _ _ _ _ _ _ (selector_text at kind) refl (inl (record { at = at; kind = kind; is = is; unread = refl; told = refl })) c.refuse_selector.ensures
 
 pub returns-in-Err : goal.returns-in-Err
 returns-in-Err g c =
@@ -25,7 +25,7 @@ pub returns : goal.returns
 returns g c =
     let is : IsRead c.args.text.now (reads c.in-Ok.selector) = record { said = c.in-Ok.ensures.said; means = c.in-Ok.ensures.means } in
     let fault = c.in-Err-truths.fault in
-    fault_ends (select c.args.text.now) _ _ _ _ _ _ _ _ _ c.of_script.result
+    fault_ends (select c.args.text.now) _ _ _ _ _ _ _ _ _ c.of_script.result c.in-Ok-read_input.ensures.kept
     (λ other.
     let told = of_script fault c.of_script.result c.of_script.ensures other in
     inr (record {

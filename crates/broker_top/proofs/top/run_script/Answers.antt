@@ -10,7 +10,7 @@ returns-in-Err g c = unread_ends run _ _ _ _ _ _ _ _ _ c.in-Err.unread (λ large
 
 pub returns-in-Err-read_job : goal.returns-in-Err-read_job
 returns-in-Err-read_job g c =
-    fault_ends run _ _ _ _ _ _ _ _ _ c.in-Err-read_job.fault
+    fault_ends run _ _ _ _ _ _ _ _ _ c.in-Err-read_job.fault c.in-Ok.ensures.kept
     (λ other. inr (record {
       input = c.in-Ok.bytes.items;
       whole = c.in-Ok.ensures.whole;
@@ -33,5 +33,6 @@ returns-in-Ok-run g c =
         legal = c.in-Ok-run.ensures.legal;
         told = c.in-Ok-run.ensures.text;
       };
+      source = c.in-Ok.ensures.kept;
       tells = rw c.deref-in-Ok-run.ensures.value at c.tell.ensures;
     }
