@@ -86,28 +86,21 @@ fn negation(negated: bool) -> &'static str {
     if negated { "not-" } else { "" }
 }
 
-/// A form with one part.
-#[cycle(show)]
-fn show_one(out: &mut String, word: &str, part: &Expr) -> Result<(), Fail> {
-    write!(out, "({word} ")?;
-    show(out, part)?;
-    out.push_str(")")?;
-    Ok(())
-}
-
-/// A form with two parts.
-#[cycle(show)]
-fn show_two(out: &mut String, word: &str, left: &Expr, right: &Expr) -> Result<(), Fail> {
-    write!(out, "({word} ")?;
-    show(out, left)?;
-    out.push_str(" ")?;
-    show(out, right)?;
-    out.push_str(")")?;
-    Ok(())
+/// The word of a form that is shown with its parts alone.
+fn word_of(expr: &Expr) -> &'static str {
+    match expr {
+        Expr::Minus(_) => "minus",
+        Expr::Plus(_) => "plus",
+        Expr::Not(_) => "not",
+        Expr::And(_, _) => "and",
+        Expr::Or(_, _) => "or",
+        Expr::Math { op, .. } => math_sign(*op),
+        Expr::Compare { op, .. } => compare_sign(*op),
+        _ => "",
+    }
 }
 
 /// Adds the tree in prefix form.
-#[cycle(show)]
 fn show(out: &mut String, expr: &Expr) -> Result<(), Fail> {
     match expr {
         Expr::Int(number) => write!(out, "{number}")?,
@@ -118,13 +111,21 @@ fn show(out: &mut String, expr: &Expr) -> Result<(), Fail> {
         Expr::Bool(true) => out.push_str("TRUE")?,
         Expr::Bool(false) => out.push_str("FALSE")?,
         Expr::Name(name) => out.push_str(from_utf8(name.as_slice())?)?,
-        Expr::Minus(part) => show_one(out, "minus", part)?,
-        Expr::Plus(part) => show_one(out, "plus", part)?,
-        Expr::Not(part) => show_one(out, "not", part)?,
-        Expr::Math { op, left, right } => show_two(out, math_sign(*op), left, right)?,
-        Expr::Compare { op, left, right } => show_two(out, compare_sign(*op), left, right)?,
-        Expr::And(left, right) => show_two(out, "and", left, right)?,
-        Expr::Or(left, right) => show_two(out, "or", left, right)?,
+        Expr::Minus(part) | Expr::Plus(part) | Expr::Not(part) => {
+            write!(out, "({} ", word_of(expr))?;
+            show(out, part)?;
+            out.push_str(")")?;
+        }
+        Expr::And(left, right)
+        | Expr::Or(left, right)
+        | Expr::Math { left, right, .. }
+        | Expr::Compare { left, right, .. } => {
+            write!(out, "({} ", word_of(expr))?;
+            show(out, left)?;
+            out.push_str(" ")?;
+            show(out, right)?;
+            out.push_str(")")?;
+        }
         Expr::Between {
             negated,
             value,
