@@ -11,6 +11,7 @@ use Rattle.selector_tokens.specs.declared.faults.Kind.TheVariants as kind
 use Rattle.broker_top.specs.declared.faults.InputFault.{InputFault}
 use Rattle.broker_top.specs.declared.faults.InputFault.TheVariants.{Definitions, Line, NotBuilt, TooManyEntries, NoMemory}
 
+-- the name of a cause of definitions
 abbrev pub defs_cause : DefsFault → List ℕ
 defs_cause defs.LineTooLong = codes "LineTooLong"
 defs_cause defs.NotJson = codes "NotJson"
@@ -23,6 +24,7 @@ defs_cause defs.DoubleName = codes "DoubleName"
 defs_cause defs.TooManyConsumers = codes "TooManyConsumers"
 defs_cause defs.NoMemory = codes "NoMemory"
 
+-- the name of a line's cause
 abbrev pub line_cause : LineFault → List ℕ
 line_cause line.LineTooLong = codes "LineTooLong"
 line_cause line.NotJson = codes "NotJson"
@@ -38,6 +40,7 @@ line_cause line.DoubleId = codes "DoubleId"
 line_cause line.TooManyActors = codes "TooManyActors"
 line_cause line.NoMemory = codes "NoMemory"
 
+-- the name of a selector's fault
 abbrev pub kind_name : Kind → List ℕ
 kind_name kind.TooLong = codes "TooLong"
 kind_name kind.BadChar = codes "BadChar"
@@ -47,8 +50,7 @@ kind_name kind.IntRange = codes "IntRange"
 kind_name kind.TooDeep = codes "TooDeep"
 kind_name kind.Unexpected = codes "Unexpected"
 
--- the line at fault, and its cause; want of memory has no line
-
+-- the number of the line at fault; want of memory has no line
 abbrev pub line_at_fault : InputFault → ℕ
 line_at_fault (Definitions n cause) = n
 line_at_fault (Line fault) = fault.line
@@ -56,6 +58,7 @@ line_at_fault (NotBuilt n) = n
 line_at_fault (TooManyEntries n) = n
 line_at_fault NoMemory = 0
 
+-- the name of the cause
 abbrev pub cause_of : InputFault → List ℕ
 cause_of (Definitions n cause) = defs_cause cause
 cause_of (Line fault) = line_cause fault.cause
@@ -63,12 +66,12 @@ cause_of (NotBuilt n) = codes "NotBuilt"
 cause_of (TooManyEntries n) = codes "TooManyEntries"
 cause_of NoMemory = codes "NoMemory"
 
--- what is told of a cause: its name, and of a selector's fault its place and kind too
-
+-- what is told of a cause of definitions: its name, and of a selector's fault its place and kind too
 abbrev pub defs_told : DefsFault → List ℕ
 defs_told (defs.BadSelector at kind) = codes "BadSelector at " ++ (decimal at ++ (codes ": " ++ kind_name kind))
 defs_told cause = defs_cause cause
 
+-- what is told of the cause of an input
 abbrev pub told_of : InputFault → List ℕ
 told_of (Definitions n cause) = defs_told cause
 told_of fault = cause_of fault
@@ -77,6 +80,7 @@ told_of fault = cause_of fault
 abbrev pub line_text : ℕ → List ℕ → List ℕ
 line_text number cause = codes "fault: line " ++ (decimal number ++ (codes ": " ++ (cause ++ codes "\n")))
 
+-- the line that tells of the first cause of an input
 abbrev pub fault_text : InputFault → List ℕ
 fault_text fault = line_text (line_at_fault fault) (told_of fault)
 

@@ -16,6 +16,7 @@ pub record IsWhole (input : List ℕ) (left left' : Option (List ℕ)) : Type 0 
   pub end : AtEnd left'
   pub fits : length input ≤ input_limit
 
+-- what is told of an input that is too large
 abbrev pub too_large_text : List ℕ
 too_large_text = codes "fault: input too large\n"
 

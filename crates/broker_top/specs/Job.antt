@@ -33,17 +33,21 @@ pub record Lines : Type 0 where
   pub actor : List ℕ
   pub ops : List Op
 
+-- what is run, as contracts see it
 abbrev pub lines_in : Job → Lines
 lines_in job = record { queue = job.queue; actor = job.actor; ops = job.ops.items }
 
--- What is built: one standard queue with the policy NONE, whose consumers have no selector
+-- What is built: one standard queue with the policy NONE, whose consumers have no selector, and the lines of one actor,
+-- that of the first line, which put, take, acknowledge or release
 
+-- the kind that is built
 abbrev pub is_standard : QueueKind → Bool
 is_standard Standard = true
 is_standard (Priority n) = false
 is_standard (Sorted key) = false
 is_standard (LastValue key) = false
 
+-- the policy that is built
 abbrev pub is_none : Policy → Bool
 is_none policy.None = true
 is_none policy.Ring = false
@@ -51,21 +55,23 @@ is_none policy.FlowControl = false
 is_none policy.FlowToDisk = false
 is_none policy.Reject = false
 
+-- the consumer has no selector
 abbrev pub wants_all : ConsumerDef → Bool
 wants_all consumer = not (is_some consumer.selector)
 
+-- these queues are built
 abbrev pub is_built : List Defined → Bool
 is_built [] = false
 is_built (q ∷ []) = is_standard q.kind && is_none q.limits.policy && list_all wants_all q.consumers
 is_built (q ∷ r ∷ qs) = false
 
--- and the lines of one actor, that of the first line, which put, take, acknowledge or release
-
+-- the line is run, where the lines before it are those of this actor, if any
 abbrev pub is_run : Option (List ℕ) → Line → Bool
 is_run actor Rest = false
 is_run None (Doing op) = is_served op.what
 is_run (Some name) (Doing op) = is_served op.what && bytes_eq name op.actor
 
+-- whose lines they are up to this one
 abbrev pub actor_after : Option (List ℕ) → Line → Option (List ℕ)
 actor_after (Some name) l = Some name
 actor_after None Rest = None
@@ -90,37 +96,44 @@ abbrev pub too_many : ℕ → List Op → Option ℕ
 too_many puts [] = None
 too_many puts (op ∷ ops) = if is_put op.what && nat_le most_entries puts then Some op.line else too_many (puts + cond (is_put op.what) 1 0) ops
 
--- the name of the first queue, and the first actor of the first phase with its lines
-
+-- the name of the first queue
 abbrev pub first_name : List Defined → List ℕ
 first_name [] = []
 first_name (q ∷ qs) = q.name
 
+-- the first actor of a phase, with its lines
 abbrev pub first_in : Actors → List ℕ × List Op
 first_in [] = ([], [])
 first_in (actor ∷ actors) = actor
 
+-- the first actor of the first phase, with its lines
 abbrev pub first_actor : List Actors → List ℕ × List Op
 first_actor [] = ([], [])
 first_actor (phase ∷ phases) = first_in phase
 
+-- the lines of that actor on that queue
 abbrev pub lines_by : List Defined → List Actors → Lines
 lines_by queues phases = record { queue = first_name queues; actor = (first_actor phases).0; ops = (first_actor phases).1 }
 
--- What an input says: what is run, or the first cause for which it is refused. First the definitions and then the script are read; then comes what isn't built, and then the number of puts.
+-- What an input says: what is run, or the first cause for which it is refused. First the definitions and then the script
+-- are read; then comes what isn't built, and then the number of puts.
 
+-- these lines, unless a put makes too many
 abbrev pub if_few : Lines → Option ℕ → Result Lines InputFault
 if_few lines None = Ok lines
 if_few lines (Some n) = Err (TooManyEntries n)
 
+-- these lines, unless a line needs what isn't built
 abbrev pub if_built : Lines → Option ℕ → Result Lines InputFault
 if_built lines None = if_few lines (too_many 0 lines.ops)
 if_built lines (Some n) = Err (NotBuilt n)
 
+-- behind definitions of number n, by what the script was read as
 abbrev pub with_script : ℕ → List Defined → List (ℕ × List ℕ) → Result (List Line) ScriptFault → Result Lines InputFault
 with_script n queues texts (Err fault) = Err (LineRefused fault)
 with_script n queues texts (Ok ls) = if_built (lines_by queues (phases_of ls)) (unbuilt n queues texts)
 
+-- by the cause of the definitions, which are this text
 abbrev pub with_defs : ℕ → List ℕ → List (ℕ × List ℕ) → Option DefsFault → Result Lines InputFault
 with_defs n text texts (Some cause) = Err (Definitions n cause)
 with_defs n text texts None = with_script n (defs_of text) texts (script_after (defs_of text) false [] texts)
@@ -130,6 +143,7 @@ abbrev pub with_texts : List (ℕ × List ℕ) → Result Lines InputFault
 with_texts [] = Err (Definitions 1 NotJson)
 with_texts (text ∷ texts) = with_defs text.0 text.1 texts (fault_of text.1)
 
+-- what the bytes of an input say
 abbrev pub input_says : List ℕ → Result Lines InputFault
 input_says input = with_texts (numbered 1 (lines_of input))
 

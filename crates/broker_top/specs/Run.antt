@@ -69,8 +69,7 @@ on_held m named otherwise some = option_map_or (λ id. option_map_or (some id) (
 abbrev pub nothing : Span
 nothing = record { from = 0; to = 0 }
 
--- The answer of a line, and its acts, where the run stands at this moment. No other lines are run than these four.
-
+-- The answer of a line where the run stands at this moment. No other lines are run than these four.
 abbrev pub answer_of : Moment → What → Answer
 answer_of m (Put queue message) = Accepted message.id false nothing
 answer_of m (Take consumer) = on_first m Empty (λ x. Got x.slip.id (next_delivery m.given x.slip.id))
@@ -78,6 +77,7 @@ answer_of m (Ack queue named) = on_held m named NotHeld (λ id x. Acked id)
 answer_of m (Release queue named) = on_held m named NotHeld (λ id x. Released id)
 answer_of m w = NotHeld
 
+-- the acts of a line where the run stands at this moment
 abbrev pub acts_of : Moment → What → List Act
 acts_of m (Put queue message) = put_acts m.queue message.id (content message)
 acts_of m (Take consumer) = on_first m [] take_acts
@@ -92,6 +92,7 @@ held_after m (Ack queue named) = on_held m named m.held (λ id x. without id m.h
 held_after m (Release queue named) = on_held m named m.held (λ id x. without id m.held)
 held_after m w = m.held
 
+-- the ids of all deliveries after a line
 abbrev pub given_after : Moment → What → List ℕ
 given_after m (Take consumer) = on_first m m.given (λ x. m.given ++ x.slip.id ∷ [])
 given_after m w = m.given
@@ -123,6 +124,7 @@ resting_in id size (Unlocked h) = record { id = id; size = size; holder = None }
 resting_in id size Dequeued = []
 resting_in id size Deleted = []
 
+-- what is left of a row: an entry, or nothing
 abbrev pub resting_of : Row → List Resting
 resting_of x = resting_in x.slip.id x.slip.size x.state
 

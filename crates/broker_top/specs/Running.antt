@@ -32,6 +32,7 @@ is_served Begin = false
 is_served Commit = false
 is_served Rollback = false
 
+-- a line that puts something
 abbrev pub is_put : What → Bool
 is_put (Put queue message) = true
 is_put w = false

@@ -20,6 +20,7 @@ pub record IsRead (text : List ℕ) (outcome : Outcome) : Type 0 where
   pub said : selector_of text ≡ outcome
   pub means : IsOutcome text outcome
 
+-- the line that tells a truth
 abbrev pub truth_word : Truth → List ℕ
 truth_word True = codes "true\n"
 truth_word False = codes "false\n"

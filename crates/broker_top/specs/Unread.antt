@@ -6,11 +6,13 @@ use Rattle.broker_top.specs.declared.input.Unread.TheVariants as unread
 use Rattle.broker_top.specs.declared.status.Status.{Status}
 use Rattle.broker_top.specs.declared.status.Status.TheVariants.{InputRefused, ReadFault, NoMemory}
 
+-- the status that tells why
 abbrev pub unread_status : Unread → Status
 unread_status unread.TooLarge = InputRefused
 unread_status unread.Fault = ReadFault
 unread_status unread.NoMemory = NoMemory
 
+-- the text that tells why
 abbrev pub unread_text : Unread → List ℕ
 unread_text unread.TooLarge = too_large_text
 unread_text unread.Fault = codes "fault: read\n"

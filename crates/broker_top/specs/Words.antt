@@ -27,6 +27,7 @@ selecting (Some (select text)) = Some (select text)
 selecting (Some run) = None
 selecting None = None
 
+-- what was asked for, as contracts see it
 abbrev pub task_of : Asked → Task
 task_of asked_for.Run = run
 task_of (asked_for.Select text) = select text.now
