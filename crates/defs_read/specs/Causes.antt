@@ -32,6 +32,7 @@ of_field field.MissingField = MissingField
 of_field field.FloatNumber = FloatNumber
 of_field field.BadValue = BadValue
 
+-- the value is an object
 abbrev pub is_object : Data → Bool
 is_object d = is_some (as_object d)
 
@@ -39,6 +40,7 @@ is_object d = is_some (as_object d)
 abbrev pub name_in : Data → List ℕ
 name_in d = unwrap_or (text_at Name d) []
 
+-- the name is one of these
 abbrev pub is_among : List ℕ → List (List ℕ) → Bool
 is_among name names = list_any (bytes_eq name) names
 

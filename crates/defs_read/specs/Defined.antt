@@ -13,6 +13,7 @@ pub record Defined : Type 0 where
   pub limits : Limits
   pub consumers : List ConsumerDef
 
+-- the definition of a queue, as contracts see it
 abbrev pub defined : QueueDef → Defined
 defined q = record { name = q.name; kind = q.kind; limits = q.limits; consumers = q.consumers.items }
 

@@ -22,6 +22,7 @@ own_fields LastValue = LvqKey ∷ []
 abbrev pub later_fields : QueueType → List Field
 later_fields t = Kind ∷ (own_fields t ++ (MaximumMessages ∷ MaximumBytes ∷ OverflowPolicy ∷ Consumers ∷ []))
 
+-- all fields of a queue of this type, in order
 abbrev pub queue_fields : QueueType → List Field
 queue_fields t = Name ∷ later_fields t
 
@@ -36,10 +37,11 @@ required_fields LastValue = Name ∷ []
 abbrev pub later_consumer_fields : List Field
 later_consumer_fields = Actor ∷ Selector ∷ []
 
+-- all fields of a consumer, in order
 abbrev pub consumer_fields : List Field
 consumer_fields = Name ∷ later_consumer_fields
 
--- those of them that must stand
+-- those of a consumer's fields that must stand
 abbrev pub required_consumer_fields : List Field
 required_consumer_fields = Name ∷ Actor ∷ []
 

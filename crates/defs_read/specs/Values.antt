@@ -32,6 +32,7 @@ kind_by Priority d = kind.Priority (unwrap_or (number_at Priorities d) 10)
 kind_by Sorted d = kind.Sorted (unwrap_or (text_at SortKey d) [])
 kind_by LastValue d = kind.LastValue (unwrap_or (text_at LvqKey d) default_key)
 
+-- the kind of a queue
 abbrev pub kind_of : Data → QueueKind
 kind_of d = kind_by (type_named (text_at Kind d)) d
 

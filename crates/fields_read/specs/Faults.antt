@@ -22,6 +22,7 @@ abbrev pub passes_unless : {A : Type 0} → Option A → Result (Unit {0}) A
 passes_unless None = Ok tt
 passes_unless (Some cause) = Err cause
 
+-- one of the fields has this name
 abbrev pub is_named : List ℕ → List Field → Bool
 is_named name fields = list_any (λ f. bytes_eq (name_of f) name) fields
 
@@ -30,6 +31,7 @@ abbrev pub any_unknown : List Field → Members → Bool
 any_unknown known no_members = false
 any_unknown known (member k d ms) = not (is_named k known) || any_unknown known ms
 
+-- the object has a member that none of these fields names; what is no object has none
 abbrev pub has_unknown : List Field → Data → Bool
 has_unknown known d = unwrap_or (option_map (any_unknown known) (as_object d)) false
 

@@ -62,22 +62,28 @@ accepts Body d = is_some (as_str d)
 
 -- The value of a field in an object, read as what it has to be; none where the field is missing or is something else
 
+-- the value of the field, whatever it is
 abbrev pub value_at : Field → Data → Option Data
 value_at f d = get (name_of f) d
 
+-- its text
 abbrev pub text_at : Field → Data → Option (List ℕ)
 text_at f d = option_and_then as_str (value_at f d)
 
+-- its number, a whole one from 0 to 2 ^ 64 - 1
 abbrev pub number_at : Field → Data → Option ℕ
 number_at f d = option_and_then as_u64 (option_and_then as_number (value_at f d))
 
+-- its truth value
 abbrev pub truth_at : Field → Data → Option Bool
 truth_at f d = option_and_then as_bool (value_at f d)
 
 -- a list, and the members of an object: empty where the field is missing or is something else
 
+-- the values of the field's list
 abbrev pub items_at : Field → Data → Items
 items_at f d = unwrap_or (option_and_then as_array (value_at f d)) no_items
 
+-- the members of the field's object
 abbrev pub members_at : Field → Data → Members
 members_at f d = unwrap_or (option_and_then as_object (value_at f d)) no_members

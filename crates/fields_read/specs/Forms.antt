@@ -36,6 +36,7 @@ is_one_of texts d = is_text_with (λ s. list_any (bytes_eq s) texts) d
 abbrev pub is_whole : ℕ → ℕ → Data → Bool
 is_whole least most d = unwrap_or (option_map (λ n. nat_le least n && nat_le n most) (option_and_then as_u64 (as_number d))) false
 
+-- the value is -1
 abbrev pub is_minus_one : Data → Bool
 is_minus_one d = unwrap_or (option_map (λ z. int_eq z (negsuc 0)) (option_and_then as_i64 (as_number d))) false
 
@@ -43,6 +44,7 @@ is_minus_one d = unwrap_or (option_map (λ z. int_eq z (negsuc 0)) (option_and_t
 abbrev pub is_limit : Data → Bool
 is_limit d = is_minus_one d || is_whole 1 (2 ^ 40) d
 
+-- how many values a list has
 abbrev pub count_items : Items → ℕ
 count_items no_items = 0
 count_items (item d ds) = suc (count_items ds)

@@ -6,6 +6,7 @@ use Rattle.selector_read.specs.declared.trees.MathOp.{MathOp}
 use Rattle.selector_tokens.specs.declared.tokens.CompareOp.{CompareOp}
 use Rattle.selector_read.specs.Trees.{Tree, int, text, truth, name, minus, plus, math, compare, between, one_of, like, is_null, negation, both, either}
 
+-- a tree without parts
 data Leaf : Type 0 where
   leaf_int : ℤ → Leaf
   leaf_text : List ℕ → Leaf
@@ -15,6 +16,7 @@ data Leaf : Type 0 where
   leaf_like : Bool → List ℕ → List ℕ → Option ℕ → Leaf
   leaf_null : Bool → List ℕ → Leaf
 
+-- a tree, or a form without its parts
 data Node : Type 0 where
   leaf : Leaf → Node
   node_minus : Node
@@ -44,6 +46,7 @@ nodes_before (negation a) rest = nodes_before a (node_not ∷ rest)
 nodes_before (both a b) rest = nodes_before a (nodes_before b (node_and ∷ rest))
 nodes_before (either a b) rest = nodes_before a (nodes_before b (node_or ∷ rest))
 
+-- the tree without parts
 abbrev of_leaf : Leaf → Tree
 of_leaf (leaf_int n) = int n
 of_leaf (leaf_text s) = text s
@@ -58,17 +61,20 @@ abbrev one_part : (Tree → Tree) → List Tree → List Tree
 one_part f [] = []
 one_part f (a ∷ parts) = f a ∷ parts
 
+-- two parts become one
 abbrev two_parts : (Tree → Tree → Tree) → List Tree → List Tree
 two_parts f [] = []
 two_parts f (b ∷ []) = []
 two_parts f (b ∷ a ∷ parts) = f a b ∷ parts
 
+-- three parts become one
 abbrev three_parts : (Tree → Tree → Tree → Tree) → List Tree → List Tree
 three_parts f [] = []
 three_parts f (c ∷ []) = []
 three_parts f (c ∷ b ∷ []) = []
 three_parts f (c ∷ b ∷ a ∷ parts) = f a b c ∷ parts
 
+-- the node takes its parts from the front, and stands there with them
 abbrev joined : Node → List Tree → List Tree
 joined (leaf l) parts = of_leaf l ∷ parts
 joined node_minus parts = one_part minus parts
@@ -80,10 +86,12 @@ joined node_not parts = one_part negation parts
 joined node_and parts = two_parts both parts
 joined node_or parts = two_parts either parts
 
+-- what the nodes make, one after another
 abbrev trees : List Node → List Tree → List Tree
 trees [] parts = parts
 trees (n ∷ ns) parts = trees ns (joined n parts)
 
+-- the tree that was made last
 abbrev first_tree : List Tree → Tree
 first_tree [] = int (pos 0)
 first_tree (t ∷ ts) = t

@@ -7,6 +7,7 @@ use Rattle.selector_read.specs.Trees.{Tree, tree_of}
 use Rattle.selector_read.specs.Codes.{tree_code}
 use Rattle.selector_read.specs.Reading.{Begun, or_of, and_of, not_of, compare_of, low_of, high_of, math_of, minus_of, plus_of, paren, level, Held}
 
+-- the code's form as a form
 abbrev pub begun_of : Form → Begun
 begun_of (form.Or a) = or_of (tree_of (box_value a))
 begun_of (form.And a) = and_of (tree_of (box_value a))

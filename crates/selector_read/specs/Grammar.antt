@@ -24,7 +24,7 @@ listed s (t ∷ ts) = Text s ∷ Comma ∷ listed t ts
 abbrev pub IsCharacter : List ℕ → ℕ → Type 0
 IsCharacter s c = IsScalar c × (s ≡ encode_utf8 c)
 
--- the pattern doesn't end with an escape character that escapes nothing
+-- the characters don't end with an escape character that escapes nothing
 abbrev pub is_closed : ℕ → List ℕ → Bool
 is_closed escape [] = true
 is_closed escape (c ∷ []) = not (c == escape)
@@ -34,6 +34,7 @@ is_closed escape (c ∷ d ∷ cs) = if c == escape then is_closed escape cs else
 unfoldable pub characters : List ℕ → List ℕ
 characters s = if is_utf8 s then chars s else []
 
+-- the pattern doesn't end with an escape character that escapes nothing
 abbrev pub is_whole_pattern : ℕ → List ℕ → Bool
 is_whole_pattern escape pattern = is_closed escape (characters pattern)
 

@@ -13,6 +13,7 @@ use Rattle.selector_tokens.specs.declared.faults.SelectorFault.{SelectorFault}
 use Rattle.selector_tokens.specs.declared.faults.SelectorFault.TheVariants.{Bad, NoMemory}
 use Rattle.selector_tokens.specs.declared.faults.Kind.TheVariants as kind
 
+-- the code's mode as a mode
 abbrev pub mode_of : Next → Mode
 mode_of next.Operand = operand
 mode_of (next.Named x) = named x
@@ -45,12 +46,15 @@ StepsAnywhere result f = (fs : List Begun) → Steps fs result (f fs)
 
 -- ---- behind an expression that is settled
 
+-- AND behind it
 abbrev pub and_held : Held → Step
 and_held h = and_step h.begun h.tree
 
+-- OR behind it
 abbrev pub or_held : Held → Step
 or_held h = or_step h.begun h.tree
 
+-- a closing parenthesis behind it
 abbrev pub close_held : Held → Step
 close_held h = close_step h.begun h.tree
 

@@ -82,6 +82,7 @@ nests minus_of = 1
 nests plus_of = 1
 nests paren = 1
 
+-- how many of the forms count for the nesting
 abbrev pub nesting : List Begun → ℕ
 nesting [] = 0
 nesting (f ∷ fs) = nests f + nesting fs
@@ -123,10 +124,12 @@ pub data Mode : Type 0 where
   pattern_read : Bool → List ℕ → List ℕ → Mode
   escape_next : Bool → List ℕ → List ℕ → Mode
 
+-- where the reading stands between two tokens
 pub record State : Type 0 where
   pub begun : List Begun
   pub mode : Mode
 
+-- the state of these forms, where this may come next
 abbrev pub state : List Begun → Mode → State
 state fs m = record { begun = fs; mode = m }
 
@@ -142,6 +145,7 @@ pub data Step : Type 0 where
 abbrev pub begins : ℕ → Begun → List Begun → Step
 begins most f fs = if nat_lt (nesting fs) most then goes (state (f ∷ fs) operand) else too_deep
 
+-- where an operand must come
 abbrev pub operand_step : ℕ → List Begun → Token → Step
 operand_step most fs (Word reserved.Not) = if nat_le (awaited fs) 3 then begins most not_of fs else unexpected
 operand_step most fs Plus = begins most plus_of fs
@@ -168,11 +172,13 @@ and_step [] e = goes (state (and_of e ∷ []) operand)
 and_step (low_of n a ∷ fs) e = goes (state (high_of n a e ∷ fs) operand)
 and_step (f ∷ fs) e = goes (state (and_of e ∷ f ∷ fs) operand)
 
+-- OR: the left part of OR is whole, unless a BETWEEN waits for its lower end
 abbrev pub or_step : List Begun → Tree → Step
 or_step [] e = goes (state (or_of e ∷ []) operand)
 or_step (low_of n a ∷ fs) e = unexpected
 or_step (f ∷ fs) e = goes (state (or_of e ∷ f ∷ fs) operand)
 
+-- a closing parenthesis: the innermost form must be an open one
 abbrev pub close_step : List Begun → Tree → Step
 close_step [] e = unexpected
 close_step (paren ∷ fs) e = goes (state fs (valued e 8))
@@ -196,6 +202,7 @@ value_step fs e l (Word reserved.Or) = or_step (settle 1 fs e).begun (settle 1 f
 value_step fs e l Close = close_step (settle 1 fs e).begun (settle 1 fs e).tree
 value_step fs e l other = unexpected
 
+-- behind a name that may begin a comparison by IN, LIKE or IS
 abbrev pub named_step : List Begun → List ℕ → Token → Step
 named_step fs x (Word reserved.In) = goes (state fs (list_next false x))
 named_step fs x (Word reserved.Like) = goes (state fs (pattern_next false x))
@@ -203,38 +210,46 @@ named_step fs x (Word reserved.Is) = goes (state fs (null_next false x))
 named_step fs x (Word reserved.Not) = goes (state fs (not_name x))
 named_step fs x other = value_step fs (name x) 8 other
 
+-- behind an expression and NOT
 abbrev pub not_value_step : List Begun → Tree → Token → Step
 not_value_step fs e (Word reserved.Between) = goes (state (low_of true e ∷ fs) operand)
 not_value_step fs e other = unexpected
 
+-- behind a name and NOT
 abbrev pub not_name_step : List Begun → List ℕ → Token → Step
 not_name_step fs x (Word reserved.Between) = goes (state (low_of true (name x) ∷ fs) operand)
 not_name_step fs x (Word reserved.In) = goes (state fs (list_next true x))
 not_name_step fs x (Word reserved.Like) = goes (state fs (pattern_next true x))
 not_name_step fs x other = unexpected
 
+-- behind IS, or IS NOT
 abbrev pub null_step : List Begun → Bool → List ℕ → Token → Step
 null_step fs n x (Word reserved.Null) = goes (state fs (valued (is_null n x) 4))
 null_step fs false x (Word reserved.Not) = goes (state fs (null_next true x))
 null_step fs n x other = unexpected
 
+-- behind IN; its parenthesis counts for the nesting
 abbrev pub list_step : ℕ → List Begun → Bool → List ℕ → Token → Step
 list_step most fs n x Open = if nat_lt (nesting fs) most then goes (state fs (item_next n x [])) else too_deep
 list_step most fs n x other = unexpected
 
+-- where a string of IN's list must come
 abbrev pub item_step : List Begun → Bool → List ℕ → List (List ℕ) → Token → Step
 item_step fs n x list (Text s) = goes (state fs (item_read n x (list ++ s ∷ [])))
 item_step fs n x list other = unexpected
 
+-- behind a string of IN's list
 abbrev pub item_read_step : List Begun → Bool → List ℕ → List (List ℕ) → Token → Step
 item_read_step fs n x list Comma = goes (state fs (item_next n x list))
 item_read_step fs n x list Close = goes (state fs (valued (one_of n x list) 4))
 item_read_step fs n x list other = unexpected
 
+-- where the pattern must come
 abbrev pub pattern_step : List Begun → Bool → List ℕ → Token → Step
 pattern_step fs n x (Text p) = goes (state fs (pattern_read n x p))
 pattern_step fs n x other = unexpected
 
+-- behind the pattern
 abbrev pub pattern_read_step : List Begun → Bool → List ℕ → List ℕ → Token → Step
 pattern_read_step fs n x p (Word reserved.Escape) = goes (state fs (escape_next n x p))
 pattern_read_step fs n x p other = value_step fs (like n x p None) 4 other
@@ -248,14 +263,17 @@ only_of (c ∷ d ∷ cs) = None
 unfoldable pub only_character : List ℕ → Option ℕ
 only_character s = only_of (characters s)
 
+-- behind an escape string that is this character, or none
 abbrev pub escaped : List Begun → Bool → List ℕ → List ℕ → Option ℕ → Step
 escaped fs n x p None = unexpected
 escaped fs n x p (Some c) = if is_whole_pattern c p then goes (state fs (valued (like n x p (Some c)) 4)) else open_pattern
 
+-- where the escape string must come
 abbrev pub escape_step : List Begun → Bool → List ℕ → List ℕ → Token → Step
 escape_step fs n x p (Text e) = escaped fs n x p (only_character e)
 escape_step fs n x p other = unexpected
 
+-- what a token does where this may come next
 abbrev pub step_in : ℕ → List Begun → Mode → Token → Step
 step_in most fs operand t = operand_step most fs t
 step_in most fs (named x) t = named_step fs x t
@@ -278,6 +296,7 @@ step most s t = step_in most s.begun s.mode t
 abbrev pub ended : Held → Option Tree
 ended h = elim h.begun as (λ _. Option Tree) [ [] ↦ Some h.tree | f ∷ fs ↦ None ]
 
+-- the expression that the text is, where it ends here
 abbrev pub finished_in : List Begun → Mode → Option Tree
 finished_in fs (named x) = ended (settle 1 fs (name x))
 finished_in fs (valued e l) = ended (settle 1 fs e)
@@ -287,9 +306,11 @@ finished_in fs other = None
 unfoldable pub finished : State → Option Tree
 finished s = finished_in s.begun s.mode
 
+-- before the first token
 abbrev pub start : State
 start = state [] operand
 
+-- behind the last token: the fault of the place, or the expression that the text is
 abbrev pub at_end : Stop → Option Kind → Option Tree → Outcome
 at_end stop (Some kind) t = refused stop.at kind
 at_end stop None (Some t) = reads t

@@ -19,6 +19,7 @@ pub data Outcome : Type 0 where
 abbrev pub longest_text : ℕ
 longest_text = 4096
 
+-- the tokens without their places
 abbrev pub tokens : List Placed → List Token
 tokens ps = map (λ p. p.token) ps
 
@@ -68,6 +69,7 @@ IsFaultless ts = (kind : Kind) (before after : List Token) (t : Token) → ts �
 abbrev pub IsEscape : Placed → Type 0
 IsEscape p = p.token ≡ Word reserved.Escape
 
+-- the token is a string of one character
 abbrev pub IsCharacterToken : Placed → Type 0
 IsCharacterToken p = (s : List ℕ) × (c : ℕ) × (p.token ≡ Text s) × IsCharacter s c
 
@@ -75,6 +77,7 @@ IsCharacterToken p = (s : List ℕ) × (c : ℕ) × (p.token ≡ Text s) × IsCh
 abbrev pub EndsAnEscape : List Placed → Placed → ℕ → Type 0
 EndsAnEscape before p at = (front : List Placed) × (pattern : Placed) × (word : Placed) × (before ≡ front ++ pattern ∷ word ∷ []) × IsEscape word × IsCharacterToken p × (at ≡ pattern.at)
 
+-- this is where the fault of the token is told
 abbrev pub IsPlace : List Placed → Placed → ℕ → Type 0
 IsPlace before p at = EndsAnEscape before p at ⊎ (((n : ℕ) → EndsAnEscape before p n → ⊥) × (at ≡ p.at))
 

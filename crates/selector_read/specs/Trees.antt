@@ -41,5 +41,6 @@ tree_step (Expr-F.Not e) = negation (box_value e)
 tree_step (Expr-F.And l r) = both (box_value l) (box_value r)
 tree_step (Expr-F.Or l r) = either (box_value l) (box_value r)
 
+-- the code's expression as a tree
 abbrev pub tree_of : Expr → Tree
 tree_of = fold-Expr Tree tree_step

@@ -27,12 +27,14 @@ level_of (negation a) = 3
 level_of (both a b) = 2
 level_of (either a b) = 1
 
+-- the sign of an operator, with a space at each side
 abbrev pub math_sign : MathOp → List ℕ
 math_sign Add = codes " + "
 math_sign Sub = codes " - "
 math_sign Mul = codes " * "
 math_sign Div = codes " / "
 
+-- the sign of a comparison, with a space at each side
 abbrev pub compare_sign : CompareOp → List ℕ
 compare_sign Equal = codes " = "
 compare_sign Unequal = codes " <> "
@@ -41,6 +43,7 @@ compare_sign LessEqual = codes " <= "
 compare_sign Greater = codes " > "
 compare_sign GreaterEqual = codes " >= "
 
+-- TRUE or FALSE
 abbrev pub truth_word : Bool → List ℕ
 truth_word true = codes "TRUE"
 truth_word false = codes "FALSE"
@@ -54,16 +57,20 @@ words false last = last
 abbrev pub string_byte : ℕ → List ℕ
 string_byte c = if c == 39 then 39 ∷ 39 ∷ [] else c ∷ []
 
+-- a string between single quotes, each quote in it twice
 abbrev pub quoted : List ℕ → List ℕ
 quoted s = 39 ∷ flat_map string_byte s ++ 39 ∷ []
 
+-- a string behind a comma
 abbrev pub after_comma : List ℕ → List ℕ
 after_comma s = codes ", " ++ quoted s
 
+-- strings with commas between them
 abbrev pub comma_list : List (List ℕ) → List ℕ
 comma_list [] = []
 comma_list (s ∷ ss) = quoted s ++ flat_map after_comma ss
 
+-- ESCAPE and its character, where there is one
 abbrev pub escape_text : Option ℕ → List ℕ
 escape_text None = []
 escape_text (Some c) = codes " ESCAPE " ++ quoted (encode_utf8 c)
