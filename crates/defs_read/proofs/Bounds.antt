@@ -1,9 +1,10 @@
 -- definitions that have no cause are within their limits
-use Rattle.std.proofs.Common.{◌≡◌, ℕ, zero, suc, ◌+◌, ◌<◌, ◌≤◌, Bool, true, false, not, List, [], ◌∷◌, ◌++◌, length, map, get_or, Option, Some, None, refl, ap, ◌∙◌, arith}
-use Rattle.std.specs.Prelude.{All, nat_le, ◌&&◌, ◌||◌, is_some, option_and_then, option_map, unwrap_or}
+use Rattle.std.proofs.Common.{◌≡◌, ℕ, zero, suc, ◌+◌, ◌<◌, ◌≤◌, Bool, true, false, not, List, [], ◌∷◌, ◌++◌, length, map, get_or, Option, Some, None, refl, ap, subst, ◌∙◌, arith}
+use Rattle.std.specs.Prelude.{All, nat_le, ◌&&◌, ◌||◌, is_some, option_and_then, option_map, unwrap_or, slice_get}
 use Rattle.std.proofs.lemmas.Bool.Decides.{nat_tests}
 use Rattle.std.proofs.lemmas.List.{length-append, length_push}
-use Rattle.std.proofs.lemmas.List.Elements.{All-append, All-cons, All-nil}
+use Rattle.std.proofs.lemmas.List.Elements.{All-append, All-cons, All-get_or, All-nil}
+use Rattle.std.proofs.lemmas.Option.{get_or_from_slice_get, slice_get-map, slice_get_within}
 use Rattle.serde_json.specs.Data.{Data, Items, no_items, item}
 use Rattle.serde_json.specs.Find.{as_array, as_number, as_u64}
 use Rattle.fields_read.specs.Faults.{cause_if, field_fault, has_unknown, is_float_at, lacks, presence_fault, value_fault, values_fault}
@@ -14,10 +15,11 @@ use Rattle.fields_read.specs.declared.faults.FieldFault.{FieldFault}
 use Rattle.fields_read.specs.declared.faults.FieldFault.TheVariants.{UnknownField, MissingField, FloatNumber, BadValue}
 use Rattle.defs_read.specs.Allowed.{AreAllowed, HasPriorities, IsAllowed}
 use Rattle.defs_read.specs.Causes.{consumer_causes, consumers_fault, defs_causes, name_in, names_in, of_field, queue_causes, queues_fault}
-use Rattle.defs_read.specs.Defined.{Defined, consumers_in}
+use Rattle.defs_read.specs.Defined.{Defined, consumers_in, defined}
 use Rattle.defs_read.specs.Tables.{later_fields, line_fields, type_named}
 use Rattle.defs_read.specs.Values.{consumer_of, consumers_of, kind_by, queue_of, queues_of}
 use Rattle.defs_read.specs.declared.defs.ConsumerDef.{ConsumerDef}
+use Rattle.defs_read.specs.declared.defs.QueueDef.{QueueDef}
 use Rattle.defs_read.specs.declared.faults.DefsFault.{DefsFault}
 use Rattle.defs_read.specs.declared.faults.DefsFault.TheVariants.{TooManyConsumers}
 use Rattle.defs_read.specs.declared.tables.QueueType.{QueueType}
@@ -180,3 +182,12 @@ allowed d queues none told =
       numbers = rw told (all_numbers 0 64 ds fit);
       each = rw told (each_allowed 0 [] [] ds no_queue_cause refl (omega arith));
     }
+
+-- ---- the queue at a place
+
+-- where queues are within their limits, so is the one at each place: what `slip` asks of it
+pub allowed_at : (queues : List QueueDef) (place : ℕ) (q : QueueDef) → AreAllowed (map defined queues) → slice_get queues place ≡ Some q → IsAllowed (defined q)
+allowed_at queues place q allowed found =
+    let here : slice_get (map defined queues) place ≡ Some (defined q) = slice_get-map defined queues place ∙ ap (option_map defined) found in
+    subst IsAllowed (get_or_from_slice_get (map defined queues) place (defined q) (defined q) here)
+    (All-get_or IsAllowed (map defined queues) place (defined q) (slice_get_within (map defined queues) place (defined q) here) allowed.each)
