@@ -10,7 +10,7 @@ use Rattle.acts_core.specs.declared.queues.Reservation.{Reservation}
 use Rattle.acts_core.specs.declared.rows.Row.{Row}
 use Rattle.acts_core.specs.declared.rows.RowState.TheVariants.{Available, Locked, Unlocked, Dequeued, Deleted}
 use Rattle.acts_core.specs.Laws.{KeepsDepth}
-use Rattle.acts_core.specs.Sound.{Sound, FitsQueue, IsSized}
+use Rattle.acts_core.specs.Sound.{Sound, RowFits, IsSized}
 use Rattle.acts_core.specs.State.{is_row, row_at, size_at, is_holder, nothing, reserved_by, counts, row_entries, row_bytes, entries, bytes}
 use Rattle.acts_core.specs.Table.{CanGive, Can, in_state, left_in, changed, more, less, reserving, giving_back, appending, acted, most_bytes}
 use Rattle.acts_core.proofs.KeyedLemmas.{sum-alter, sum_by-le-times, all-weaker}
@@ -135,7 +135,7 @@ row_low x small = elim (counts x.state) as (λ b. (if b then x.slip.size else 0)
 pub depth_low : (q : Queue) → Sound q → bytes q ≤ most_bytes * entries q
 depth_low q sound =
     let rows : sum_by row_bytes q.rows ≤ most_bytes * sum_by row_entries q.rows =
-    sum_by-le-times row_bytes row_entries most_bytes q.rows (all-weaker (FitsQueue q.lists q.consumers) (λ (x : Row). row_bytes x ≤ most_bytes * row_entries x) q.rows (λ x fit. row_low x fit.size) sound.rows_fit) in
+    sum_by-le-times row_bytes row_entries most_bytes q.rows (all-weaker (RowFits q.lists q.consumers) (λ (x : Row). row_bytes x ≤ most_bytes * row_entries x) q.rows (λ x fit. row_low x fit.size) sound.rows_fit) in
     let kept : sum_by (λ (v : Reservation). v.bytes) q.reserved ≤ most_bytes * sum_by (λ (v : Reservation). v.entries) q.reserved =
     sum_by-le-times (λ (v : Reservation). v.bytes) (λ (v : Reservation). v.entries) most_bytes q.reserved (all-weaker IsSized (λ (v : Reservation). v.bytes ≤ most_bytes * v.entries) q.reserved (λ v sized. sized.bytes) sound.reserved_sized) in
     omega (arith, rows, kept)

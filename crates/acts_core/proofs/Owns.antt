@@ -1,5 +1,5 @@
 -- what a caller's own acts do
-use Rattle.std.proofs.Common.{◌≡◌, ◌≢◌, ℕ, ◌+◌, ◌-◌, ◌==◌, Option, Some, None, List, [], ◌∷◌, ◌++◌, length, filter, find, refl, sym, ap, ◌∙◌, subst, ⊎_elim, zero-add, eq-eqb, eqb-true, arith}
+use Rattle.std.proofs.Common.{◌≡◌, ◌≢◌, ℕ, ◌+◌, ◌==◌, Option, Some, None, List, [], ◌∷◌, ◌++◌, length, filter, find, refl, sym, ap, ◌∙◌, subst, ⊎_elim, eq-eqb, eqb-true, arith}
 use Rattle.std.proofs.lemmas.Bool.{cases_eq, cond-true}
 use Rattle.std.proofs.lemmas.List.Elements.{filter-append}
 use Rattle.std.specs.List.{position_or_len, AllByRecursion}
@@ -18,7 +18,7 @@ use Rattle.acts_core.specs.History.{after, Legal, own, deed, deeds_of}
 use Rattle.acts_core.specs.Laws.{KeepsLock, GainsLock}
 use Rattle.acts_core.specs.Sound.{Sound, same_holder}
 use Rattle.acts_core.specs.State.{is_row, row_at, IsIn, is_of_list, rows_of, place_at, size_at, is_holder, nothing, reserved_by}
-use Rattle.acts_core.specs.Table.{CanGive, Can, in_state, left_in, changed, more, less, reserving, giving_back, acted}
+use Rattle.acts_core.specs.Table.{CanGive, Can, in_state, left_in, changed, more, less, with_more, with_less, reserving, giving_back, acted}
 use Rattle.acts_core.proofs.KeyedLemmas.{find-append, find-alter_gone, find_none-filter, position-push}
 use Rattle.acts_core.proofs.RowFacts.{row_number, row_here, row_push, reserved_alter, reserved_holder, less_last, less_more}
 use Rattle.acts_core.proofs.SoundSteps.{list_found}
@@ -77,35 +77,29 @@ holder_or h (Some v) holder = holder v refl
 pub reserved_by_holder : (q : Queue) (h : ℕ) → (reserved_by q h).holder ≡ h
 reserved_by_holder q h = holder_or h (find (is_holder h) q.reserved) (reserved_holder q h)
 
--- one entry more than what is found
-more_is : (h size : ℕ) (o : Option Reservation) → more h size o ≡ Some (record (unwrap_or o (nothing h)) { entries = (unwrap_or o (nothing h)).entries + 1; bytes = (unwrap_or o (nothing h)).bytes + size })
-more_is h size None = ap (λ (n : ℕ). let w : Reservation = record { holder = h; entries = 1; bytes = n } in Some w) (sym (zero-add size))
-more_is h size (Some v) = refl
-
 -- one entry more, and its bytes
-pub own_reserving : (q : Queue) (h size : ℕ) → reserved_by (reserving q h size) h ≡ record (reserved_by q h) { entries = (reserved_by q h).entries + 1; bytes = (reserved_by q h).bytes + size }
+pub own_reserving : (q : Queue) (h size : ℕ) → reserved_by (reserving q h size) h ≡ with_more (reserved_by q h) size
 own_reserving q h size =
     ap (λ (o : Option Reservation). unwrap_or o (nothing h))
-    (reserved_alter h (more h size) q.reserved (record (reserved_by q h) { entries = (reserved_by q h).entries + 1; bytes = (reserved_by q h).bytes + size })
-    (more_is h size (find (is_holder h) q.reserved)) (reserved_by_holder q h))
+    (reserved_alter h (more h size) q.reserved (with_more (reserved_by q h) size) refl (reserved_by_holder q h))
 
 -- what is left, by what is found
 giving_by : (q : Queue) (h size : ℕ) (o : Option Reservation) → Sound q → find (is_holder h) q.reserved ≡ o → CanGive (unwrap_or o (nothing h)) size
-    → reserved_by (giving_back q h size) h ≡ record (unwrap_or o (nothing h)) { entries = (unwrap_or o (nothing h)).entries - 1; bytes = (unwrap_or o (nothing h)).bytes - size }
+    → reserved_by (giving_back q h size) h ≡ with_less (unwrap_or o (nothing h)) size
 giving_by q h size None sound found can = absurd (omega (arith, can.entry))
 giving_by q h size (Some v) sound found can = ⊎_elim
     (λ (last : v.entries ≡ 1).
     let gone : find (is_holder h) (giving_back q h size).reserved ≡ None =
     find-alter_gone same_holder (is_holder h) (less size) q.reserved (λ x z here out. ap (λ (n : ℕ). z.holder == n) (sym (eqb-true x.holder h here)) ∙ out) sound.reserved_apart (ap (less size) found ∙ less_last size v last) in
     ap (λ (o : Option Reservation). unwrap_or o (nothing h)) gone
-    ∙ same_reservation (nothing h) (record v { entries = v.entries - 1; bytes = v.bytes - size }) (sym (reserved_holder q h v found)) (omega arith) (omega (arith, can.bytes, can.rest)))
+    ∙ same_reservation (nothing h) (with_less v size) (sym (reserved_holder q h v found)) (omega arith) (omega (arith, can.bytes, can.rest)))
     (λ (many : v.entries ≢ 1).
     ap (λ (o : Option Reservation). unwrap_or o (nothing h))
-    (reserved_alter h (less size) q.reserved (record v { entries = v.entries - 1; bytes = v.bytes - size }) (ap (less size) found ∙ less_more size v many) (reserved_holder q h v found)))
+    (reserved_alter h (less size) q.reserved (with_less v size) (ap (less size) found ∙ less_more size v many) (reserved_holder q h v found)))
     (cases_eq v.entries 1)
 
 -- one entry less, and its bytes
-pub own_giving : (q : Queue) (h size : ℕ) → Sound q → CanGive (reserved_by q h) size → reserved_by (giving_back q h size) h ≡ record (reserved_by q h) { entries = (reserved_by q h).entries - 1; bytes = (reserved_by q h).bytes - size }
+pub own_giving : (q : Queue) (h size : ℕ) → Sound q → CanGive (reserved_by q h) size → reserved_by (giving_back q h size) h ≡ with_less (reserved_by q h) size
 own_giving q h size sound can = giving_by q h size (find (is_holder h) q.reserved) sound refl can
 
 -- a dequeued row becomes reserved

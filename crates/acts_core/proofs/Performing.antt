@@ -11,7 +11,7 @@ use Rattle.acts_core.specs.declared.rows.Row.{Row}
 use Rattle.acts_core.specs.Keyed.{alter}
 use Rattle.acts_core.specs.State.{is_row, is_holder, is_bell, list_at, place_at, size_at, row_at}
 use Rattle.acts_core.specs.Table.{Can, acted, earlier, most_bytes}
-use Rattle.acts_core.specs.Sound.{Sound, IsSized, FitsQueue}
+use Rattle.acts_core.specs.Sound.{Sound, IsSized, RowFits}
 use Rattle.acts_core.proofs.KeyedLemmas.{all-find}
 use Rattle.acts_core.proofs.SoundSteps.{sound_step}
 
@@ -42,7 +42,7 @@ size_fits q r sound = by_row (row_at q r) (λ i. row_at q r)
   where
     by_row : (o : Option Row) → row_at q r ≡ o → option_map_or (λ (x : Row). x.slip.size) o 0 ≤ most_bytes
     by_row None e = omega arith
-    by_row (Some x) e = (all-find (FitsQueue q.lists q.consumers) (is_row r) q.rows x sound.rows_fit e).size
+    by_row (Some x) e = (all-find (RowFits q.lists q.consumers) (is_row r) q.rows x sound.rows_fit e).size
 
 -- ringing for a row is the act
 pub rung : (q : Queue) (h r c : ℕ) (bell : ring.Bell) (new : List ring.Bell) → bell ≡ record { consumer = c; list = list_at q r; place = place_at q r; row = r } → new ≡ alter (is_bell bell.consumer bell.list) (earlier bell) q.bells → record q { bells = new } ≡ acted q h (Bell r c)

@@ -1,12 +1,12 @@
 -- rows, reservations and bells by their keys
-use Rattle.std.proofs.Common.{◌≡◌, ◌≢◌, ℕ, ◌+◌, ◌-◌, ◌==◌, false, Option, Some, None, List, [], ◌∷◌, ◌++◌, find, option_map, refl, sym, ap, ◌∙◌, ⊎_elim, eq-eqb, ne_eqb, eqb-true}
+use Rattle.std.proofs.Common.{◌≡◌, ◌≢◌, ℕ, ◌==◌, false, Option, Some, None, List, [], ◌∷◌, ◌++◌, find, option_map, refl, sym, ap, ◌∙◌, ⊎_elim, eq-eqb, ne_eqb, eqb-true, zero-add}
 use Rattle.std.proofs.lemmas.Bool.{cases_eq, cond-true, cond-false}
 use Rattle.acts_core.specs.declared.queues.Queue.{Queue}
 use Rattle.acts_core.specs.declared.queues.Reservation.{Reservation}
 use Rattle.acts_core.specs.declared.rows.Row.{Row}
 use Rattle.acts_core.specs.Keyed.{alter}
-use Rattle.acts_core.specs.State.{is_row, row_at, is_holder}
-use Rattle.acts_core.specs.Table.{changed, more, less}
+use Rattle.acts_core.specs.State.{is_row, row_at, is_holder, nothing}
+use Rattle.acts_core.specs.Table.{changed, more, less, with_more, with_less}
 use Rattle.acts_core.proofs.KeyedLemmas.{find_passes, find-push, find-push_other, find-alter, find-alter_other}
 
 -- Rows
@@ -80,28 +80,32 @@ reserved_alter_other h k f xs other holder =
 pub reserved_holder : (q : Queue) (h : ℕ) (v : Reservation) → find (is_holder h) q.reserved ≡ Some v → v.holder ≡ h
 reserved_holder q h v e = eqb-true v.holder h (find_passes (is_holder h) q.reserved v e)
 
+-- one entry more than nothing is one entry
+pub first_entry : (h size : ℕ) → record { holder = h; entries = 1; bytes = size } ≡ with_more (nothing h) size
+first_entry h size = ap (λ (n : ℕ). let v : Reservation = record { holder = h; entries = 1; bytes = n } in v) (sym (zero-add size))
+
 -- with one entry more it still is
 pub more_holder : (h size : ℕ) (o : Option Reservation) (v : Reservation) → ((u : Reservation) → o ≡ Some u → u.holder ≡ h) → more h size o ≡ Some v → v.holder ≡ h
-more_holder h size None v holder e = let same : record { holder = h; entries = 1; bytes = size } ≡ v = cc in ap (λ (u : Reservation). u.holder) (sym same)
+more_holder h size None v holder e = let same : with_more (nothing h) size ≡ v = cc in ap (λ (u : Reservation). u.holder) (sym same)
 more_holder h size (Some u) v holder e =
-    let same : record u { entries = u.entries + 1; bytes = u.bytes + size } ≡ v = cc in
+    let same : with_more u size ≡ v = cc in
     ap (λ (w : Reservation). w.holder) (sym same) ∙ holder u refl
 
 -- of the last entry nothing stays
 pub less_last : (size : ℕ) (v : Reservation) → v.entries ≡ 1 → less size (Some v) ≡ None
-less_last size v last = cond-true (v.entries == 1) None (Some (record v { entries = v.entries - 1; bytes = v.bytes - size })) (eq-eqb v.entries 1 last)
+less_last size v last = cond-true (v.entries == 1) None (Some (with_less v size)) (eq-eqb v.entries 1 last)
 
 -- of more than one something stays
-pub less_more : (size : ℕ) (v : Reservation) → v.entries ≢ 1 → less size (Some v) ≡ Some (record v { entries = v.entries - 1; bytes = v.bytes - size })
-less_more size v many = cond-false (v.entries == 1) None (Some (record v { entries = v.entries - 1; bytes = v.bytes - size })) (ne_eqb v.entries 1 many)
+pub less_more : (size : ℕ) (v : Reservation) → v.entries ≢ 1 → less size (Some v) ≡ Some (with_less v size)
+less_more size v many = cond-false (v.entries == 1) None (Some (with_less v size)) (ne_eqb v.entries 1 many)
 
 -- what is left of a reservation, if anything is
-pub less_some : (size : ℕ) (o : Option Reservation) (v : Reservation) → less size o ≡ Some v → (u : Reservation) × (o ≡ Some u) × (u.entries ≢ 1) × (v ≡ record u { entries = u.entries - 1; bytes = u.bytes - size })
+pub less_some : (size : ℕ) (o : Option Reservation) (v : Reservation) → less size o ≡ Some v → (u : Reservation) × (o ≡ Some u) × (u.entries ≢ 1) × (v ≡ with_less u size)
 less_some size None v e = absurd (cc)
 less_some size (Some u) v e = ⊎_elim
     (λ (last : u.entries ≡ 1). let bad : None ≡ Some v = sym (less_last size u last) ∙ e in absurd (cc))
     (λ (many : u.entries ≢ 1).
-    let both : Some (record u { entries = u.entries - 1; bytes = u.bytes - size }) ≡ Some v = sym (less_more size u many) ∙ e in
-    let same : v ≡ record u { entries = u.entries - 1; bytes = u.bytes - size } = cc in
+    let both : Some (with_less u size) ≡ Some v = sym (less_more size u many) ∙ e in
+    let same : v ≡ with_less u size = cc in
     (u, refl, many, same))
     (cases_eq u.entries 1)

@@ -1,5 +1,5 @@
 -- sound states stay sound
-use Rattle.std.proofs.Common.{◌≡◌, ◌≢◌, ℕ, ◌+◌, ◌-◌, ◌^◌, ◌<◌, ◌≤◌, Bool, true, false, not, ◌==◌, nat_lt, Option, Some, None, List, [], ◌∷◌, length, filter, find, sum_by, option_map, if◌then◌else◌, ◌⊎◌, inl, inr, unwrap_or, refl, sym, ap, ◌∙◌, subst, ⊎_elim, le_of_eq, le_trans, eq-eqb, ne_eqb, eqb-true, arith}
+use Rattle.std.proofs.Common.{◌≡◌, ◌≢◌, ℕ, ◌-◌, ◌<◌, ◌≤◌, Bool, true, false, not, ◌==◌, nat_lt, Option, Some, None, List, [], ◌∷◌, length, filter, find, sum_by, option_map, if◌then◌else◌, ◌⊎◌, inl, inr, unwrap_or, refl, sym, ap, ◌∙◌, subst, ⊎_elim, le_of_eq, le_trans, eq-eqb, ne_eqb, eqb-true, arith}
 use Rattle.std.proofs.lemmas.Bool.{eqb-false, cases_Bool, and_parts, and_from, cond-true, cond-false}
 use Rattle.std.proofs.lemmas.List.Sums.{sum_by-cons}
 use Rattle.std.specs.Option.{option_map_or}
@@ -12,13 +12,12 @@ use Rattle.acts_core.specs.declared.queues.Queue.{Queue}
 use Rattle.acts_core.specs.declared.queues.Reservation.{Reservation}
 use Rattle.acts_core.specs.declared.rows.Row.{Row}
 use Rattle.acts_core.specs.declared.rows.RowState.TheVariants.{Available, Locked, Unlocked, Dequeued, Deleted}
-use Rattle.acts_core.specs.declared.rows.Slip.{Slip}
 use Rattle.acts_core.specs.History.{after, Legal}
 use Rattle.acts_core.specs.Keyed.{Apart}
 use Rattle.acts_core.specs.Laws.{KeepsDepth}
-use Rattle.acts_core.specs.Sound.{Sound, FitsQueue, IsSized, RingsIn, IsOpening, same_number, same_holder, same_bell}
+use Rattle.acts_core.specs.Sound.{Sound, RowFits, IsSized, RingsIn, IsOpening, same_number, same_holder, same_bell}
 use Rattle.acts_core.specs.State.{is_row, row_at, list_at, place_at, size_at, is_holder, nothing, reserved_by, is_bell, counts, row_entries, entries}
-use Rattle.acts_core.specs.Table.{CanGive, Can, in_state, left_in, changed, more, less, reserving, giving_back, appending, earlier, ringing, acted, most_bytes, most_entries}
+use Rattle.acts_core.specs.Table.{FitsQueue, CanGive, Can, in_state, left_in, changed, more, less, with_more, with_less, reserving, giving_back, appending, earlier, ringing, acted, most_bytes, most_entries}
 use Rattle.acts_core.proofs.KeyedLemmas.{find_passes, all-find, all-alter, all-push, all-filter, apart-alter, apart-push, apart-filter}
 use Rattle.acts_core.proofs.RowFacts.{changed_number, reserved_holder, more_holder, less_some}
 use Rattle.acts_core.proofs.Depths.{depth_kept, depth_dequeued, depth_reserving, depth_giving, size_found}
@@ -75,20 +74,16 @@ mapped f None y e = absurd (cc)
 mapped f (Some x) y e = (x, refl, cc)
 
 -- a row of the same slip fits
-fit_same : (l c : ℕ) (x y : Row) → FitsQueue l c x → y.slip ≡ x.slip → FitsQueue l c y
-fit_same l c x y fit same = record {
-  size = subst (λ (s : Slip). s.size ≤ most_bytes) (sym same) fit.size;
-  list = subst (λ (s : Slip). s.list < l) (sym same) fit.list;
-  mask = subst (λ (s : Slip). s.mask < 2 ^ c) (sym same) fit.mask;
-}
+fit_same : (l c : ℕ) (x y : Row) → RowFits l c x → y.slip ≡ x.slip → RowFits l c y
+fit_same l c x y fit same = subst (FitsQueue l c) (sym same) fit
 
 -- a change that keeps the number and the slip
 pub sound_changed : (q : Queue) (r : ℕ) (f : Row → Row) → Sound q → ((x : Row) → (f x).number ≡ x.number) → ((x : Row) → (f x).slip ≡ x.slip) → entries (changed q r f) ≤ most_entries → Sound (changed q r f)
 sound_changed q r f sound number slip few = record {
   rows_apart = apart-alter same_number (is_row r) (option_map f) q.rows (number_splits r) (number_joins r) (λ y e. eq-eqb y.number r (changed_number q r f number y e)) sound.rows_apart;
-  rows_fit = all-alter (FitsQueue q.lists q.consumers) (is_row r) (option_map f) q.rows sound.rows_fit
+  rows_fit = all-alter (RowFits q.lists q.consumers) (is_row r) (option_map f) q.rows sound.rows_fit
       (λ y e. let m = mapped f (row_at q r) y e in
-      fit_same q.lists q.consumers m.0 y (all-find (FitsQueue q.lists q.consumers) (is_row r) q.rows m.0 sound.rows_fit m.1) (ap (λ (z : Row). z.slip) (sym m.2) ∙ slip m.0));
+      fit_same q.lists q.consumers m.0 y (all-find (RowFits q.lists q.consumers) (is_row r) q.rows m.0 sound.rows_fit m.1) (ap (λ (z : Row). z.slip) (sym m.2) ∙ slip m.0));
   reserved_apart = sound.reserved_apart;
   reserved_sized = sound.reserved_sized;
   bells_apart = sound.bells_apart;
@@ -97,10 +92,10 @@ sound_changed q r f sound number slip few = record {
 }
 
 -- a new row of a new number that fits
-pub sound_appending : (q : Queue) (x : Row) → Sound q → row_at q x.number ≡ None → FitsQueue q.lists q.consumers x → entries (appending q x) ≤ most_entries → Sound (appending q x)
+pub sound_appending : (q : Queue) (x : Row) → Sound q → row_at q x.number ≡ None → RowFits q.lists q.consumers x → entries (appending q x) ≤ most_entries → Sound (appending q x)
 sound_appending q x sound new fit few = record {
   rows_apart = apart-push same_number (is_row x.number) q.rows x (λ z out. number_splits x.number z x out (eq-eqb x.number x.number refl)) new sound.rows_apart;
-  rows_fit = all-push (FitsQueue q.lists q.consumers) q.rows x sound.rows_fit fit;
+  rows_fit = all-push (RowFits q.lists q.consumers) q.rows x sound.rows_fit fit;
   reserved_apart = sound.reserved_apart;
   reserved_sized = sound.reserved_sized;
   bells_apart = sound.bells_apart;
@@ -109,18 +104,18 @@ sound_appending q x sound new fit few = record {
 }
 
 -- a row that is found fits
-pub row_fits : (q : Queue) (r : ℕ) (x : Row) → Sound q → row_at q r ≡ Some x → FitsQueue q.lists q.consumers x
-row_fits q r x sound found = all-find (FitsQueue q.lists q.consumers) (is_row r) q.rows x sound.rows_fit found
+pub row_fits : (q : Queue) (r : ℕ) (x : Row) → Sound q → row_at q r ≡ Some x → RowFits q.lists q.consumers x
+row_fits q r x sound found = all-find (RowFits q.lists q.consumers) (is_row r) q.rows x sound.rows_fit found
 
 -- Reservations
 
 -- one entry more is within its limits
 more_sized : (h size : ℕ) (o : Option Reservation) (v : Reservation) → size ≤ most_bytes → ((u : Reservation) → o ≡ Some u → IsSized u) → more h size o ≡ Some v → IsSized v
 more_sized h size None v small sized e =
-    let same : record { holder = h; entries = 1; bytes = size } ≡ v = cc in
+    let same : with_more (nothing h) size ≡ v = cc in
     record { entry = omega (arith, ap (λ (u : Reservation). u.entries) same); bytes = omega (arith, ap (λ (u : Reservation). u.entries) same, ap (λ (u : Reservation). u.bytes) same) }
 more_sized h size (Some u) v small sized e =
-    let same : record u { entries = u.entries + 1; bytes = u.bytes + size } ≡ v = cc in
+    let same : with_more u size ≡ v = cc in
     let old : IsSized u = sized u refl in
     record { entry = omega (arith, ap (λ (w : Reservation). w.entries) same); bytes = omega (arith, old.bytes, ap (λ (w : Reservation). w.entries) same, ap (λ (w : Reservation). w.bytes) same) }
 
@@ -143,7 +138,7 @@ pub reserved_found : (q : Queue) (h : ℕ) (v : Reservation) → find (is_holder
 reserved_found q h v found = ap (λ (o : Option Reservation). unwrap_or o (nothing h)) found
 
 -- what is left is within its limits
-less_sized : (u v : Reservation) (size : ℕ) → CanGive u size → u.entries ≢ 1 → v ≡ record u { entries = u.entries - 1; bytes = u.bytes - size } → IsSized v
+less_sized : (u v : Reservation) (size : ℕ) → CanGive u size → u.entries ≢ 1 → v ≡ with_less u size → IsSized v
 less_sized u v size can many same =
     let number : v.entries ≡ u.entries - 1 = ap (λ (w : Reservation). w.entries) same in
     let volume : v.bytes ≡ u.bytes - size = ap (λ (w : Reservation). w.bytes) same in
@@ -238,7 +233,7 @@ sound_step q h (GiveBack size) can sound = sound_giving q h size sound can (omeg
 sound_step q h (Enq r slip content origin n) can sound =
     let mid : Sound (giving_back q h slip.size) = sound_giving q h slip.size sound can.reserved (omega (arith, (depth_giving q h slip.size can.reserved).0, sound.small)) in
     sound_appending (giving_back q h slip.size) (record { number = r; slip = slip; state = Available; content = content; origin = origin; count = n }) mid can.new
-    (record { size = can.size; list = can.list; mask = can.mask }) (few_kept q h (Enq r slip content origin n) can tt sound)
+    (can.fits) (few_kept q h (Enq r slip content origin n) can tt sound)
 sound_step q h (Bell r c) can sound =
     let list : list_at q r < q.lists = subst (λ (l : ℕ). l < q.lists) (sym (list_found q r can.0.0 can.0.1)) (row_fits q r can.0.0 sound can.0.1).list in
     sound_ringing q (record { consumer = c; list = list_at q r; place = place_at q r; row = r }) sound can.1 list

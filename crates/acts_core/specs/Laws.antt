@@ -1,5 +1,5 @@
 -- the statements of the laws, each proved as the contract of a function in src/laws.rt
-use Rattle.std.specs.Prelude.{◌≡◌, ◌≢◌, ℕ, ◌+◌, ◌-◌, ◌*◌, ◌≤◌, Option, Some, None, ◌⊎◌, List, [], ◌∷◌, ◌++◌, length, find, sum_by}
+use Rattle.std.specs.Prelude.{◌≡◌, ◌≢◌, ℕ, ◌+◌, ◌*◌, ◌≤◌, Option, Some, None, ◌⊎◌, List, [], ◌∷◌, ◌++◌, length, find, sum_by}
 use Rattle.std.specs.List.{AllByRecursion}
 use Rattle.std.specs.Option.{option_map_or}
 use mathlib.Core.List.{IsPrefix}
@@ -13,7 +13,7 @@ use Rattle.acts_core.specs.declared.rows.RowState.TheVariants.{Available, Locked
 use Rattle.acts_core.specs.declared.rows.Slip.{Slip}
 use Rattle.acts_core.specs.Keyed.{alter}
 use Rattle.acts_core.specs.State.{is_row, row_at, IsIn, rows_of, list_at, place_at, size_at, is_holder, reserved_by, bell_at, entries, bytes}
-use Rattle.acts_core.specs.Table.{Can, acted, changed, earlier, most_bytes}
+use Rattle.acts_core.specs.Table.{Can, acted, changed, earlier, most_bytes, with_more, with_less}
 use Rattle.acts_core.specs.History.{after, Legal, own, deeds_of}
 use Rattle.acts_core.specs.Order.{Order, arrival, Precedes, IsOlder}
 use Rattle.acts_core.specs.Sound.{Sound, IsOpening}
@@ -316,14 +316,6 @@ OwnDeleted = (q : Queue) (h r : ℕ) → Can q h (Del r) → IsIn (acted q h (De
 abbrev pub ReservedHolder : Type 0
 ReservedHolder = (q : Queue) (h : ℕ) → (reserved_by q h).holder ≡ h
 
--- with one entry of this size more
-abbrev pub with_more : Reservation → ℕ → Reservation
-with_more v size = record v { entries = v.entries + 1; bytes = v.bytes + size }
-
--- with one entry of this size less
-abbrev pub with_less : Reservation → ℕ → Reservation
-with_less v size = record v { entries = v.entries - 1; bytes = v.bytes - size }
-
 -- a caller's reservation after it reserved more
 abbrev pub OwnReserve : Type 0
 OwnReserve = (q : Queue) (h size : ℕ) → reserved_by (acted q h (Reserve size)) h ≡ with_more (reserved_by q h) size
@@ -380,10 +372,6 @@ LockStays = (o : Queue) (s0 s1 : List Deed) (h r : ℕ) (acts : List Act) → Is
 -- a caller whose one new act takes a row holds it, and each row that it held before is another
 abbrev pub Gains : Type 0
 Gains = (o : Queue) (s0 s1 : List Deed) (h r : ℕ) (a : Act) → IsPrefix s0 s1 → Legal o s1 → own h s1 ≡ own h s0 ++ deeds_of h (a ∷ []) → GainsLock r a → IsIn (after o s1) r (Locked h) × ((x : ℕ) → IsIn (after o s0) x (Locked h) → x ≢ r)
-
--- a caller whose one new act acquires an available row holds it, and each row that it held before is another
-abbrev pub Acquires : Type 0
-Acquires = (o : Queue) (s0 s1 : List Deed) (h r : ℕ) → IsPrefix s0 s1 → Legal o s1 → own h s1 ≡ own h s0 ++ deeds_of h (Acq r ∷ []) → IsIn (after o s1) r (Locked h) × ((x : ℕ) → IsIn (after o s0) x (Locked h) → x ≢ r)
 
 -- Queue order, and oldest order
 

@@ -1,5 +1,5 @@
 -- what holds of every state that an opening leads to
-use Rattle.std.specs.Prelude.{◌≡◌, ℕ, ◌*◌, ◌^◌, ◌<◌, ◌≤◌, Bool, [], length}
+use Rattle.std.specs.Prelude.{◌≡◌, ℕ, ◌*◌, ◌<◌, ◌≤◌, Bool, [], length}
 use Rattle.std.specs.List.{AllByRecursion}
 use Rattle.acts_core.specs.declared.rows.Row.{Row}
 use Rattle.acts_core.specs.declared.rows.RowState.TheVariants.{Available}
@@ -8,13 +8,11 @@ use Rattle.acts_core.specs.declared.queues.Queue.{Queue}
 use Rattle.acts_core.specs.declared.queues.Reservation.{Reservation}
 use Rattle.acts_core.specs.Keyed.{Apart}
 use Rattle.acts_core.specs.State.{is_row, is_holder, is_bell, entries}
-use Rattle.acts_core.specs.Table.{most_bytes, most_entries}
+use Rattle.acts_core.specs.Table.{FitsQueue, most_bytes, most_entries}
 
--- a row that fits a queue with so many lists and consumers
-pub record FitsQueue (lists consumers : ℕ) (x : Row) : Type 0 where
-  pub size : x.slip.size ≤ most_bytes
-  pub list : x.slip.list < lists
-  pub mask : x.slip.mask < 2 ^ consumers
+-- the row's slip fits a queue with so many lists and consumers
+abbrev pub RowFits : ℕ → ℕ → Row → Type 0
+RowFits lists consumers x = FitsQueue lists consumers x.slip
 
 -- a reservation has an entry, and for each entry at most the bytes of the largest message
 pub record IsSized (v : Reservation) : Type 0 where
@@ -41,7 +39,7 @@ pub record RingsIn (lists consumers : ℕ) (b : Bell) : Type 0 where
 -- No number stands twice, no caller has two reservations, no bell two places; each row, reservation and bell is within its limits.
 pub record Sound (q : Queue) : Type 0 where
   pub rows_apart : Apart same_number q.rows
-  pub rows_fit : AllByRecursion (FitsQueue q.lists q.consumers) q.rows
+  pub rows_fit : AllByRecursion (RowFits q.lists q.consumers) q.rows
   pub reserved_apart : Apart same_holder q.reserved
   pub reserved_sized : AllByRecursion IsSized q.reserved
   pub bells_apart : Apart same_bell q.bells
@@ -51,7 +49,7 @@ pub record Sound (q : Queue) : Type 0 where
 -- a state that a queue may begin with: available rows alone, within the limits
 pub record IsOpening (q : Queue) : Type 0 where
   pub rows_apart : Apart same_number q.rows
-  pub rows_fit : AllByRecursion (FitsQueue q.lists q.consumers) q.rows
+  pub rows_fit : AllByRecursion (RowFits q.lists q.consumers) q.rows
   pub available : AllByRecursion (λ x. x.state ≡ Available) q.rows
   pub reserved : q.reserved ≡ []
   pub bells : q.bells ≡ []

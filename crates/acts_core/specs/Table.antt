@@ -1,5 +1,5 @@
 -- the table of acts: when an act of a caller has a step, and what the step does
-use Rattle.std.specs.Prelude.{◌≡◌, ℕ, ◌+◌, ◌-◌, ◌*◌, ◌^◌, ◌<◌, ◌≤◌, ◌==◌, nat_lt, not, if◌then◌else◌, Option, Some, None, [], ◌∷◌, ◌++◌, filter}
+use Rattle.std.specs.Prelude.{◌≡◌, ℕ, ◌+◌, ◌-◌, ◌*◌, ◌^◌, ◌<◌, ◌≤◌, ◌==◌, nat_lt, not, if◌then◌else◌, Option, Some, None, [], ◌∷◌, ◌++◌, filter, unwrap_or}
 use Rattle.std.specs.Option.{option_map}
 use Rattle.acts_core.specs.declared.rows.Row.{Row}
 use Rattle.acts_core.specs.declared.rows.RowState.{RowState}
@@ -11,7 +11,7 @@ use Rattle.acts_core.specs.declared.queues.Queue.{Queue}
 use Rattle.acts_core.specs.declared.queues.Reservation.{Reservation}
 use Rattle.acts_core.specs.declared.queues.Bell as ring
 use Rattle.acts_core.specs.Keyed.{alter}
-use Rattle.acts_core.specs.State.{is_row, row_at, IsIn, list_at, place_at, size_at, is_holder, reserved_by, is_bell, entries}
+use Rattle.acts_core.specs.State.{is_row, row_at, IsIn, list_at, place_at, size_at, is_holder, nothing, reserved_by, is_bell, entries}
 
 -- the greatest size of a message, in bytes
 abbrev pub most_bytes : ℕ
@@ -23,6 +23,12 @@ most_entries = 524288
 
 -- When an act has a step
 
+-- a slip that fits a queue with so many lists and consumers
+pub record FitsQueue (lists consumers : ℕ) (slip : Slip) : Type 0 where
+  pub size : slip.size ≤ most_bytes
+  pub list : slip.list < lists
+  pub mask : slip.mask < 2 ^ consumers
+
 -- One entry of this size can be taken out of a reservation. No bytes are left without an entry.
 pub record CanGive (v : Reservation) (size : ℕ) : Type 0 where
   pub entry : 0 < v.entries
@@ -32,9 +38,7 @@ pub record CanGive (v : Reservation) (size : ℕ) : Type 0 where
 -- a new row of this slip may come: a number that no row has, a slip that fits the queue, and a reserved entry
 pub record CanEnqueue (q : Queue) (h r : ℕ) (slip : Slip) : Type 0 where
   pub new : row_at q r ≡ None
-  pub size : slip.size ≤ most_bytes
-  pub list : slip.list < q.lists
-  pub mask : slip.mask < 2 ^ q.consumers
+  pub fits : FitsQueue q.lists q.consumers slip
   pub reserved : CanGive (reserved_by q h) slip.size
 
 -- the act of caller h has a step in this state
@@ -66,15 +70,22 @@ left_in s n x = record x { state = s; count = n }
 abbrev pub changed : Queue → ℕ → (Row → Row) → Queue
 changed q r f = record q { rows = alter (is_row r) (option_map f) q.rows }
 
--- a caller's reservation with one more entry of this size
-abbrev pub more : ℕ → ℕ → Option Reservation → Option Reservation
-more h size None = Some (record { holder = h; entries = 1; bytes = size })
-more h size (Some v) = Some (record v { entries = v.entries + 1; bytes = v.bytes + size })
+-- with one entry of this size more
+abbrev pub with_more : Reservation → ℕ → Reservation
+with_more v size = record v { entries = v.entries + 1; bytes = v.bytes + size }
 
--- with one entry of this size less; of the last entry nothing stays
+-- with one entry of this size less
+abbrev pub with_less : Reservation → ℕ → Reservation
+with_less v size = record v { entries = v.entries - 1; bytes = v.bytes - size }
+
+-- what a caller has reserved, if anything, with one entry of this size more
+abbrev pub more : ℕ → ℕ → Option Reservation → Option Reservation
+more h size o = Some (with_more (unwrap_or o (nothing h)) size)
+
+-- what a caller has reserved, if anything, with one entry of this size less; of the last entry nothing stays
 abbrev pub less : ℕ → Option Reservation → Option Reservation
 less size None = None
-less size (Some v) = if v.entries == 1 then None else Some (record v { entries = v.entries - 1; bytes = v.bytes - size })
+less size (Some v) = if v.entries == 1 then None else Some (with_less v size)
 
 -- caller h has one more entry of this size reserved
 abbrev pub reserving : Queue → ℕ → ℕ → Queue

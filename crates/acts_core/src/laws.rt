@@ -1,5 +1,5 @@
 //! Laws of histories, on which every crate above rests. Each is the contract of a function with no body.
-ghost use Rattle.acts_core.specs.Laws.{AfterAppend, LegalAppend, LegalFront, LegalRest, OwnAppend, OwnMine, OwnOther, PrefixSelf, PrefixMore, PrefixTrans, PrefixShorter, PrefixWhole, PrefixLength, LegalPrefix, OwnBetween, SeenAll, RowAlter, RowAlterOther, RowSum, RowAppend, RowPush, RowPushOther, RowNumber, RowHere, RowElsewhere, ReservedAlter, ReservedAlterOther, ReservedPush, ReservedPushOther, ReservedSum, DepthReserve, DepthGiveBack, DepthKept, DepthLow, SoundOpening, SoundStep, SoundAfter, RowStep, RowStays, NewStep, NewStays, ListStep, ListStays, PlaceStep, PlaceStays, HeldRowStep, HeldRowStays, HeldStep, HeldStays, ReservedStep, ReservedStays, DeletedStep, DeletedStays, GoneStep, GoneStays, BellStep, BellStays, OwnAcquired, OwnLocked, OwnStolen, OwnUnlocked, OwnReleased, OwnDequeued, OwnDeleted, ReservedHolder, OwnReserve, OwnDequeue, OwnGiveBack, OwnEnqueue, OwnEnqueued, OwnEnqueuedLast, BellRung, BellTaken, LockStays, Gains, Acquires, PrecedesTotal, PrecedesNot, PrecedesTrans, OlderTotal, OlderNot, OlderTrans, ArrivalSame, PlaceSame};
+ghost use Rattle.acts_core.specs.Laws.{AfterAppend, LegalAppend, LegalFront, LegalRest, OwnAppend, OwnMine, OwnOther, PrefixSelf, PrefixMore, PrefixTrans, PrefixShorter, PrefixWhole, PrefixLength, LegalPrefix, OwnBetween, SeenAll, RowAlter, RowAlterOther, RowSum, RowAppend, RowPush, RowPushOther, RowNumber, RowHere, RowElsewhere, ReservedAlter, ReservedAlterOther, ReservedPush, ReservedPushOther, ReservedSum, DepthReserve, DepthGiveBack, DepthKept, DepthLow, SoundOpening, SoundStep, SoundAfter, RowStep, RowStays, NewStep, NewStays, ListStep, ListStays, PlaceStep, PlaceStays, HeldRowStep, HeldRowStays, HeldStep, HeldStays, ReservedStep, ReservedStays, DeletedStep, DeletedStays, GoneStep, GoneStays, BellStep, BellStays, OwnAcquired, OwnLocked, OwnStolen, OwnUnlocked, OwnReleased, OwnDequeued, OwnDeleted, ReservedHolder, OwnReserve, OwnDequeue, OwnGiveBack, OwnEnqueue, OwnEnqueued, OwnEnqueuedLast, BellRung, BellTaken, LockStays, Gains, PrecedesTotal, PrecedesNot, PrecedesTrans, OlderTotal, OlderNot, OlderTrans, ArrivalSame, PlaceSame};
 
 /// Histories one after the other.
 pub fn histories()
@@ -106,7 +106,6 @@ pub fn own_acts()
 pub fn locks()
     ensures stays { LockStays }
     ensures gains { Gains }
-    ensures acquires { Acquires }
 {}
 
 /// Queue order and oldest order: of any two rows of a queue one comes first.

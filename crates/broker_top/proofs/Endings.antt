@@ -10,7 +10,7 @@ use Rattle.broker_top.specs.declared.status.Status.{Status}
 use Rattle.broker_top.specs.declared.status.Status.TheVariants.{InputRefused, NoMemory}
 use Rattle.broker_top.specs.Ends.{Comes, IsRefused, ReadFaults, Refuses, TaskEnds, Tells, TellsRefusal}
 use Rattle.broker_top.specs.Faults.{OfScript, fault_text, line_cause, line_text}
-use Rattle.broker_top.specs.Input.{IsTooLarge, LeavesUnread, input_limit, too_large_text}
+use Rattle.broker_top.specs.Input.{IsTooLarge, LeavesUnread, too_large_text}
 use Rattle.broker_top.specs.Job.{GivesJob, Lines}
 use Rattle.broker_top.specs.Unread.{unread_status, unread_text}
 use Rattle.broker_top.specs.Words.{Task}
@@ -22,17 +22,17 @@ module _ (task : Task) (result : Status) (left left' written written' : Option (
   pub refusal : (text : List ℕ) → f' ≡ f → IsRefused task text left left' → Tells result InputRefused text written written' g g' → TaskEnds task result left left' written written' f f' g g'
   refusal text kept refused tells = record { status = InputRefused; text = text; comes = refused; source = kept; tells = tells }
 
-  unread_comes : (u : Unread) → (IsTooLarge too_large_text left left' → IsRefused task too_large_text left left') → LeavesUnread input_limit u left left' f f' → Comes task (unread_status u) (unread_text u) left left'
+  unread_comes : (u : Unread) → (IsTooLarge too_large_text left left' → IsRefused task too_large_text left left') → LeavesUnread u left left' f f' → Comes task (unread_status u) (unread_text u) left left'
   unread_comes unread.TooLarge refused h = refused (record { front = h.1.0; read = h.1.1; large = h.1.2; told = refl })
   unread_comes unread.Fault refused h = refl
   unread_comes unread.NoMemory refused h = refl
 
-  unread_faults : (u : Unread) → LeavesUnread input_limit u left left' f f' → ReadFaults (unread_status u) f f'
+  unread_faults : (u : Unread) → LeavesUnread u left left' f f' → ReadFaults (unread_status u) f f'
   unread_faults unread.TooLarge h = h.0
   unread_faults unread.Fault h = h
   unread_faults unread.NoMemory h = h
 
-  pub unread_ends : (u : Unread) → (IsTooLarge too_large_text left left' → IsRefused task too_large_text left left') → LeavesUnread input_limit u left left' f f' → Tells result (unread_status u) (unread_text u) written written' g g'
+  pub unread_ends : (u : Unread) → (IsTooLarge too_large_text left left' → IsRefused task too_large_text left left') → LeavesUnread u left left' f f' → Tells result (unread_status u) (unread_text u) written written' g g'
       → TaskEnds task result left left' written written' f f' g g'
   unread_ends u refused h tells = record { status = unread_status u; text = unread_text u; comes = unread_comes u refused h; source = unread_faults u h; tells = tells }
 

@@ -28,10 +28,10 @@ pub record IsTooLarge (text : List ℕ) (left left' : Option (List ℕ)) : Type 
   pub told : text ≡ too_large_text
 
 -- Why a source was not read whole: one byte more than the limit was read, or the source failed. It failed in no other case.
-abbrev pub LeavesUnread : ℕ → Unread → Option (List ℕ) → Option (List ℕ) → ℕ → ℕ → Type 0
-LeavesUnread limit TooLarge left left' faults faults' = (faults' ≡ faults) × ((front : List ℕ) × Takes left left' front × (length front ≡ limit + 1))
-LeavesUnread limit Fault left left' faults faults' = faults < faults'
-LeavesUnread limit NoMemory left left' faults faults' = faults' ≡ faults
+abbrev pub LeavesUnread : Unread → Option (List ℕ) → Option (List ℕ) → ℕ → ℕ → Type 0
+LeavesUnread TooLarge left left' faults faults' = (faults' ≡ faults) × ((front : List ℕ) × Takes left left' front × (length front ≡ input_limit + 1))
+LeavesUnread Fault left left' faults faults' = faults < faults'
+LeavesUnread NoMemory left left' faults faults' = faults' ≡ faults
 
 -- One read: some bytes came, at least one and at most so many, and are kept; or nothing is left.
 abbrev pub ReadsTurn : ℕ → turn.Turn → Option (List ℕ) → Option (List ℕ) → List ℕ → List ℕ → Type 0

@@ -1,6 +1,6 @@
 //! Reads the whole input, up to a limit.
 ghost use Rattle.std.specs.Prelude.{◌≡◌, ◌<◌, length, IfErr, IfOk, OnOk, vec_len};
-ghost use Rattle.broker_top.specs.Input.{IsWhole, LeavesUnread, ReadsTurn, TurnFaults, input_limit};
+ghost use Rattle.broker_top.specs.Input.{IsWhole, LeavesUnread, ReadsTurn, TurnFaults};
 
 use outside_io::Source;
 use std::alloc::{AllocError, Global};
@@ -26,7 +26,7 @@ const CHUNK: usize = 65_536;
 pub(crate) fn read_input<S: Source>(alloc: Global, source: &mut S) -> Result<Vec<u8>, Unread>
     ensures whole { IfOk result (λ bytes. IsWhole bytes.items (S.left source.old) (S.left source.new)) }
     ensures kept { OnOk result (S.faults source.new ≡ S.faults source.old) }
-    ensures unread { IfErr result (λ unread. LeavesUnread input_limit unread (S.left source.old) (S.left source.new) (S.faults source.old) (S.faults source.new)) }
+    ensures unread { IfErr result (λ unread. LeavesUnread unread (S.left source.old) (S.left source.new) (S.faults source.old) (S.faults source.new)) }
 {
     let Ok(mut chunk) = zeros(alloc, CHUNK) else {
         return Err(Unread::NoMemory);

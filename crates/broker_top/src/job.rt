@@ -1,12 +1,14 @@
 //! Reads an input: the definitions and the script, as far as what they need is built.
-ghost use Rattle.std.specs.Prelude.{◌≡◌, ◌+◌, ◌≤◌, ◌∷◌, [], true, false, List, ℕ, length, IfOk, IfNone, IfSome, MatchOption, Ok};
+ghost use Rattle.std.specs.Prelude.{◌≡◌, ◌+◌, ◌^◌, ◌<◌, ◌≤◌, ◌∷◌, [], true, false, List, ℕ, length, IfOk, IfNone, IfSome, MatchOption, Ok};
 ghost use Rattle.std.specs.List.{list_all};
 ghost use Rattle.acts_core.specs.Table.{most_entries};
+ghost use Rattle.defs_read.specs.Allowed.{most_queues};
 ghost use Rattle.defs_read.specs.Defined.{queues_in};
 ghost use Rattle.script_read.specs.Lines.{lines_of, numbered};
 ghost use Rattle.script_read.specs.Phases.{actors_in, phases_in, phases_of};
 ghost use Rattle.script_read.specs.Scripts.{script_of};
 ghost use Rattle.script_read.specs.declared.lines.Line.{Line};
+ghost use Rattle.broker_top.specs.Input.{input_limit};
 ghost use Rattle.broker_top.specs.Job.{GivesJob, actor_after, first_actor, first_in, first_name, first_unbuilt, input_says, is_built, is_run, lines_by, lines_in, too_many, unbuilt, wants_all, with_script};
 ghost use Rattle.broker_top.specs.Running.{is_put, is_served, puts_in};
 ghost use Rattle.broker_top.specs.Simple.{is_simple, is_simple_phase};
@@ -131,8 +133,8 @@ fn first_unbuilt(
     bytes: &[u8],
     from: u64,
 ) -> Result<Option<u64>, NoMemory>
-    requires few { length (queues_in defs.now) ≤ 16 }
-    requires from { from ≤ 67108865 }
+    requires few { length (queues_in defs.now) ≤ most_queues }
+    requires numbers { from + length bytes.now < 2 ^ 64 }
     ensures { IfOk result (λ first. first ≡ first_unbuilt (queues_in defs.now) None (numbered from (lines_of bytes.now))) }
 {
     let mut actor = None;
@@ -166,8 +168,8 @@ fn unbuilt(
     script: &Script,
     rest: &[u8],
 ) -> Result<Option<u64>, NoMemory>
-    requires few { length (queues_in defs.now) ≤ 16 }
-    requires number { number ≤ 67108864 }
+    requires few { length (queues_in defs.now) ≤ most_queues }
+    requires numbers { number + 1 + length rest.now < 2 ^ 64 }
     requires read { (ls : List Line) × (script_of (queues_in defs.now) false (number + 1) rest.now ≡ Ok ls) × (phases_in script.now ≡ phases_of ls) }
     ensures first { IfOk result (λ first. first ≡ unbuilt number (queues_in defs.now) (numbered (number + 1) (lines_of rest.now))) }
     ensures simple { IfOk result (λ first. IfNone first (is_simple (phases_in script.now) ≡ true)) }
@@ -201,7 +203,7 @@ fn too_many(ops: &[Op]) -> Option<u64>
 /// The first line that is not blank: its number from 1, its text, and the bytes behind it.
 fn first_text(input: &[u8]) -> Option<(u64, &[u8], &[u8])>
     ensures found { MatchOption result (numbered 1 (lines_of input.now) ≡ []) (λ found. numbered 1 (lines_of input.now) ≡ (found.0, found.1.now) ∷ numbered (found.0 + 1) (lines_of found.2.now)) }
-    ensures early { IfSome result (λ found. found.0 ≤ length input.now) }
+    ensures early { IfSome result (λ found. found.0 + length found.2.now ≤ length input.now) }
 {
     let mut rest = input;
     let mut number = 1;
@@ -260,8 +262,8 @@ fn job_of(alloc: Global, defs: Defs, script: Script) -> Job
 
 /// What is run of the script behind definitions, which are the line of this number.
 fn read_behind(alloc: Global, number: u64, defs: Defs, rest: &[u8]) -> Result<Job, InputFault>
-    requires few { length (queues_in defs) ≤ 16 }
-    requires number { number ≤ 67108864 }
+    requires few { length (queues_in defs) ≤ most_queues }
+    requires numbers { number + 1 + length rest.now < 2 ^ 64 }
     ensures says { GivesJob result (with_script number (queues_in defs) (numbered (number + 1) (lines_of rest.now)) (script_of (queues_in defs) false (number + 1) rest.now)) }
     ensures served { IfOk result (λ job. list_all (λ op. is_served op.what) job.ops.items ≡ true) }
     ensures few { IfOk result (λ job. puts_in job.ops.items ≤ most_entries) }
@@ -285,7 +287,7 @@ fn read_behind(alloc: Global, number: u64, defs: Defs, rest: &[u8]) -> Result<Jo
 /// What of an input is run. Refuses with the first cause, in the order that docs/SCRIPT.md gives; NoMemory may come in
 /// place of any.
 pub(crate) fn read_job(alloc: Global, input: &[u8]) -> Result<Job, InputFault>
-    requires { length input.now ≤ 67108864 }
+    requires { length input.now ≤ input_limit }
     ensures says { GivesJob result (input_says input.now) }
     ensures served { IfOk result (λ job. list_all (λ op. is_served op.what) job.ops.items ≡ true) }
     ensures few { IfOk result (λ job. puts_in job.ops.items ≤ most_entries) }

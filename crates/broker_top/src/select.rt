@@ -4,6 +4,7 @@ ghost use Rattle.message_core.specs.Spelling.{Content};
 ghost use Rattle.script_read.specs.Lines.{lines_of, numbered};
 ghost use Rattle.script_read.specs.Reading.{message_says};
 ghost use Rattle.broker_top.specs.Ends.{TaskEnds};
+ghost use Rattle.broker_top.specs.Input.{input_limit};
 ghost use Rattle.broker_top.specs.Select.{AreMessages, IsFirstRefused, TellsMessage, truth_line, truth_word, truths};
 ghost use Rattle.broker_top.specs.Text.{written_of};
 ghost use Rattle.broker_top.specs.Words.{select};
@@ -51,7 +52,7 @@ fn tell_truth(
 /// The text that tells what the selector is of each message. Refuses with the first line that is no message, and the
 /// first of its causes; NoMemory may come in place of any.
 fn truths(alloc: Global, selector: &Selector, input: &[u8]) -> Result<Vec<u8>, ScriptFault>
-    requires { length input.now ≤ 67108864 }
+    requires { length input.now ≤ input_limit }
     ensures told { IfOk result (λ text. (messages : List Content) × AreMessages (numbered 1 (lines_of input.now)) messages × (text.items ≡ truths selector.now messages)) }
     ensures refused { IfErr result (λ fault. (fault.cause ≡ LineFault.NoMemory → ⊥) → IsFirstRefused (numbered 1 (lines_of input.now)) fault.line fault.cause) }
 {

@@ -4,7 +4,7 @@ ghost use Rattle.serde_json.specs.View.{view};
 ghost use Rattle.fields_read.specs.Fields.{items_at};
 ghost use Rattle.fields_read.specs.Forms.{first_of};
 ghost use Rattle.fields_read.specs.declared.fields.Field.TheVariants.{Queues};
-ghost use Rattle.defs_read.specs.Allowed.{AreAllowed};
+ghost use Rattle.defs_read.specs.Allowed.{AreAllowed, most_queues};
 ghost use Rattle.defs_read.specs.Causes.{defs_causes};
 ghost use Rattle.defs_read.specs.Defined.{defined, queues_in};
 ghost use Rattle.defs_read.specs.Reading.{Defines, IsRefused};
@@ -34,7 +34,7 @@ fn read_value(alloc: Global, value: &Value) -> Result<Vec<QueueDef>, DefsFault>
 /// come in place of any.
 pub fn read_defs(alloc: Global, line: &[u8]) -> Result<Defs, DefsFault>
     ensures read { MatchResult result (Defines line.now) (λ fault. IsRefused fault line.now) }
-    ensures few { IfOk result (λ defs. length (queues_in defs) ≤ 16) }
+    ensures few { IfOk result (λ defs. length (queues_in defs) ≤ most_queues) }
     ensures allowed { IfOk result (λ defs. AreAllowed (queues_in defs)) }
 {
     if line.len() > LONGEST_LINE {

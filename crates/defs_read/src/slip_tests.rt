@@ -1,8 +1,4 @@
 //! Slips: which consumers want a message, and its list and its key in queues of each kind.
-ghost use Rattle.std.specs.Prelude.{IsTrue};
-ghost use Rattle.defs_read.specs.Allowed.{IsAllowed};
-ghost use Rattle.defs_read.specs.Defined.{defined};
-
 use super::*;
 use acts_core::Slip;
 use message_core::Message;
@@ -81,26 +77,12 @@ fn message(
     Ok(Message::decode(alloc, &bytes).ok().expect(rt, "a message"))
 }
 
-/// Whether the queue is within its limits.
-fn is_allowed(queue: &QueueDef) -> bool
-    ensures { IsTrue result → IsAllowed (defined queue.now) }
-{
-    let has_priorities = match queue.kind {
-        QueueKind::Priority(priorities) => 1 <= priorities && priorities <= 10,
-        QueueKind::Standard | QueueKind::Sorted(_) | QueueKind::LastValue(_) => true,
-    };
-    has_priorities && queue.consumers.len() <= 64
-}
-
 /// The slip of the message in the queue of this place.
 fn slip_in(rt: &impl Abort, alloc: Global, text: &str, place: usize, message: &Message) -> Slip {
-    let defs = read_defs(alloc, text.as_bytes())
-        .ok()
-        .expect(rt, "definitions");
+    let Ok(defs) = read_defs(alloc, text.as_bytes()) else {
+        panic!(rt; "no definitions");
+    };
     let queue = defs.queues.get(place).expect(rt, "a queue");
-    if !is_allowed(queue) {
-        panic!(rt; "beyond the limits");
-    }
     slip(alloc, queue, message).ok().expect(rt, "a slip")
 }
 

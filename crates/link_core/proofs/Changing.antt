@@ -11,10 +11,10 @@ use Rattle.acts_core.specs.declared.rows.Slip.{Slip}
 use Rattle.acts_core.specs.declared.steps.Change.{Change}
 use Rattle.acts_core.specs.declared.steps.Change.TheVariants.{Acq, Lock, Unlock, Steal, Rel, Deq, Del}
 use Rattle.acts_core.specs.declared.steps.Step.TheVariants.{State}
-use Rattle.acts_core.specs.Laws.{SameGoods, with_more}
+use Rattle.acts_core.specs.Laws.{SameGoods}
 use Rattle.acts_core.specs.Sound.{Sound}
 use Rattle.acts_core.specs.State.{row_at, IsIn, place_at, size_at, reserved_by}
-use Rattle.acts_core.specs.Table.{Can, in_state, left_in, changed, acted}
+use Rattle.acts_core.specs.Table.{Can, in_state, left_in, changed, acted, with_more}
 use Rattle.acts_core.proofs.Depths.{SameDepth, depth_kept, size_found}
 use Rattle.acts_core.proofs.Owns.{own_dequeue_reserves}
 use Rattle.acts_core.proofs.SoundSteps.{sound_step}

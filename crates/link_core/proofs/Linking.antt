@@ -13,9 +13,8 @@ use Rattle.acts_core.specs.declared.steps.DraftWord.TheVariants as drafts
 use Rattle.acts_core.specs.declared.steps.Node.{Node}
 use Rattle.acts_core.specs.declared.steps.Node.TheVariants as nodes
 use Rattle.acts_core.specs.declared.steps.Step.TheVariants.{Link}
-use Rattle.acts_core.specs.Laws.{with_less}
 use Rattle.acts_core.specs.State.{is_row, row_at, is_of_list, rows_of, list_at, place_at}
-use Rattle.acts_core.specs.Table.{CanGive, Can, acted}
+use Rattle.acts_core.specs.Table.{CanGive, Can, acted, with_less}
 use Rattle.acts_core.proofs.Depths.{depth_kept}
 use Rattle.acts_core.proofs.KeyedLemmas.{all-weaker, find-append}
 use Rattle.acts_core.proofs.Owns.{own_giving, own_enqueued, own_enqueued_last}
@@ -109,9 +108,11 @@ new_row t r content origin n = record { number = r; slip = slip_in t r; state = 
 can_enqueue : (t : Table) (q : Queue) (h r : ℕ) (node : Node) (content origin : List ℕ) (n : ℕ) → Stands t q → FitsLink t h r node → Can q h (enqueue_with t r content origin n)
 can_enqueue t q h r node content origin n s fits = record {
   new = not_linked t q h r s fits.drawn.drawer;
-  size = fits.behind.size;
-  list = omega (arith, fits.behind.list, (node_facts t q node (list_of_node t node) s fits.node refl).low, s.shaped.lists);
-  mask = subst (λ (n : ℕ). mask_in t r < 2 ^ n) s.shaped.consumers fits.behind.mask;
+  fits = record {
+    size = fits.behind.size;
+    list = omega (arith, fits.behind.list, (node_facts t q node (list_of_node t node) s fits.node refl).low, s.shaped.lists);
+    mask = subst (λ (n : ℕ). mask_in t r < 2 ^ n) s.shaped.consumers fits.behind.mask;
+  };
   reserved = subst (λ (v : Reservation). CanGive v (size_in t r)) (sym (s.reserved h)) fits.behind.reserved;
 }
 

@@ -1,5 +1,5 @@
 -- reservations, and what is given back
-use Rattle.std.proofs.Common.{◌≡◌, ◌≢◌, ℕ, ◌+◌, ◌-◌, ◌*◌, ◌/◌, ◌<◌, ◌≤◌, List, length, sym, ap, ◌∙◌, subst, ⊎_elim, arith}
+use Rattle.std.proofs.Common.{◌≡◌, ◌≢◌, ℕ, ◌+◌, ◌-◌, ◌*◌, ◌/◌, ◌<◌, ◌≤◌, List, sym, ap, ◌∙◌, subst, ⊎_elim, arith}
 use Rattle.std.specs.Prelude.{slice_index, slice_set}
 use Rattle.std.proofs.lemmas.Bool.{cases_eq}
 use Rattle.acts_core.specs.declared.deeds.Act.{Act}
@@ -7,10 +7,9 @@ use Rattle.acts_core.specs.declared.deeds.Act.TheVariants as acts
 use Rattle.acts_core.specs.declared.queues.Queue.{Queue}
 use Rattle.acts_core.specs.declared.queues.Reservation.{Reservation}
 use Rattle.acts_core.specs.declared.steps.Step.TheVariants.{Reserve, GiveBack}
-use Rattle.acts_core.specs.Laws.{with_more, with_less}
 use Rattle.acts_core.specs.Sound.{Sound}
 use Rattle.acts_core.specs.State.{reserved_by, entries, bytes}
-use Rattle.acts_core.specs.Table.{CanGive, Can, acted, most_bytes, most_entries}
+use Rattle.acts_core.specs.Table.{CanGive, Can, acted, most_bytes, most_entries, with_more, with_less}
 use Rattle.acts_core.proofs.Depths.{depth_low, depth_reserving, depth_giving}
 use Rattle.acts_core.proofs.Owns.{own_reserving, own_giving}
 use Rattle.acts_core.proofs.SoundSteps.{sound_step}
@@ -36,37 +35,40 @@ few_bytes q sound = omega (arith, depth_low q sound, sound.small)
 pub entries_shown : (words : List ℕ) (q : Queue) → Sound q → IsDepth words q → slice_index words 2 / entry_worth ≡ entries q
 entries_shown words q sound depth = let low = few_bytes q sound in let e : slice_index words 2 ≡ entries q * entry_worth + bytes q = depth in omega (arith, low, e)
 
--- a write of the word of the depth
-module _ (t : Table) (q p : Queue) (v : ℕ) (s : Stands t q) where
-  depth_long : 2 < length t.words
-  depth_long = let long = s.shaped.long in omega (arith, long)
-
-  pub depth_written : v ≡ pack_depth (entries p) (bytes p) → IsDepth (slice_set t.words 2 v) p
-  depth_written e = set_here t.words 2 v depth_long ∙ e
+-- The word of the depth is written where a caller's reservation changes, and nothing else.
+depth_kept : (t : Table) (q : Queue) (h n : ℕ) (v : Reservation) (others : List Reservation) → Stands t q
+    → Sound (record q { reserved = others })
+    → n ≡ pack_depth (entries (record q { reserved = others })) (bytes (record q { reserved = others }))
+    → ((k : ℕ) → reserved_by (record q { reserved = others }) k ≡ but t.reserved h v k)
+    → Stands (record t { words = slice_set t.words 2 n; reserved = but t.reserved h v }) (record q { reserved = others })
+depth_kept t q h n v others s sound depth reserved =
+    let shape = shaped_set t q 2 n t.drawer t.reserved s.shaped in
+    record {
+      sound = sound;
+      shaped = record { lists = shape.lists; consumers = shape.consumers; few_lists = shape.few_lists; few_consumers = shape.few_consumers; few_rows = shape.few_rows; few_callers = shape.few_callers; long = shape.long };
+      states = states_else t.words 2 n q (λ r. omega arith) s.states;
+      drafted = drafts_else t.words 2 n q (λ r x found w. omega (arith, draft_low r w)) s.drafted;
+      links = links_else t.words 2 n t.lists q (λ l lt. omega arith) (λ r. omega arith) s.links;
+      tails = tails_else t.words 2 n t.lists q (λ l lt. omega arith) s.tails;
+      marks = marks_else t.words 2 n t.lists q (λ l lt. omega arith) s.marks;
+      bells = bells_else t.words 2 n t.consumers t.lists q (λ c l fewer lt. omega arith) s.bells;
+      depth = let long = s.shaped.long in set_here t.words 2 n (omega (arith, long)) ∙ depth;
+      draws = draws_else t.words 2 n t.rows t.drawer q (omega arith) (λ r none. omega arith) (λ r none. omega arith) s.draws;
+      reserved = reserved;
+    }
 
 -- a reservation
 pub reserve_kept : (t : Table) (q : Queue) (h size : ℕ) → Stands t q → size ≤ most_bytes → slice_index t.words 2 / entry_worth < most_entries
     → Can q h (acts.Reserve size) × Stands (changed_by t h (Reserve size)) (acted q h (acts.Reserve size))
 reserve_kept t q h size s small few =
     let can : Can q h (acts.Reserve size) = (small, let e = entries_shown t.words q s.sound s.depth in omega (arith, e, few)) in
-    let n : ℕ = slice_index t.words 2 + (entry_worth + size) in
     let more = depth_reserving q h size in
     let depth : slice_index t.words 2 ≡ entries q * entry_worth + bytes q = s.depth in (
       can,
-      record {
-        sound = sound_step q h (acts.Reserve size) can s.sound;
-        shaped = let shape = shaped_set t q 2 n t.drawer t.reserved s.shaped in record { lists = shape.lists; consumers = shape.consumers; few_lists = shape.few_lists; few_consumers = shape.few_consumers; few_rows = shape.few_rows; few_callers = shape.few_callers; long = shape.long };
-        states = states_else t.words 2 n q (λ r. omega arith) s.states;
-        drafted = drafts_else t.words 2 n q (λ r x found w. omega (arith, draft_low r w)) s.drafted;
-        links = links_else t.words 2 n t.lists q (λ l lt. omega arith) (λ r. omega arith) s.links;
-        tails = tails_else t.words 2 n t.lists q (λ l lt. omega arith) s.tails;
-        marks = marks_else t.words 2 n t.lists q (λ l lt. omega arith) s.marks;
-        bells = bells_else t.words 2 n t.consumers t.lists q (λ c l fewer lt. omega arith) s.bells;
-        depth = depth_written t q (acted q h (acts.Reserve size)) n s (omega (arith, depth, more.0, more.1));
-        draws = draws_else t.words 2 n t.rows t.drawer q (omega arith) (λ r none. omega arith) (λ r none. omega arith) s.draws;
-        reserved = reserved_after_act t q h (acts.Reserve size) (with_more (t.reserved h) size) s.reserved
-            (own_reserving q h size ∙ ap (λ (v : Reservation). with_more v size) (s.reserved h));
-      },
+      depth_kept t q h (slice_index t.words 2 + (entry_worth + size)) (with_more (t.reserved h) size) (acted q h (acts.Reserve size)).reserved s
+          (sound_step q h (acts.Reserve size) can s.sound)
+          (omega (arith, depth, more.0, more.1))
+          (reserved_after_act t q h (acts.Reserve size) (with_more (t.reserved h) size) s.reserved (own_reserving q h size ∙ ap (λ (v : Reservation). with_more v size) (s.reserved h))),
     )
 
 -- what is given back
@@ -74,22 +76,11 @@ pub give_back_kept : (t : Table) (q : Queue) (h size : ℕ) → Stands t q → C
     → Can q h (acts.GiveBack size) × Stands (changed_by t h (GiveBack size)) (acted q h (acts.GiveBack size))
 give_back_kept t q h size s give =
     let can : Can q h (acts.GiveBack size) = subst (λ (v : Reservation). CanGive v size) (sym (s.reserved h)) give in
-    let n : ℕ = slice_index t.words 2 - (entry_worth + size) in
     let less = depth_giving q h size can in
     let depth : slice_index t.words 2 ≡ entries q * entry_worth + bytes q = s.depth in (
       can,
-      record {
-        sound = sound_step q h (acts.GiveBack size) can s.sound;
-        shaped = let shape = shaped_set t q 2 n t.drawer t.reserved s.shaped in record { lists = shape.lists; consumers = shape.consumers; few_lists = shape.few_lists; few_consumers = shape.few_consumers; few_rows = shape.few_rows; few_callers = shape.few_callers; long = shape.long };
-        states = states_else t.words 2 n q (λ r. omega arith) s.states;
-        drafted = drafts_else t.words 2 n q (λ r x found w. omega (arith, draft_low r w)) s.drafted;
-        links = links_else t.words 2 n t.lists q (λ l lt. omega arith) (λ r. omega arith) s.links;
-        tails = tails_else t.words 2 n t.lists q (λ l lt. omega arith) s.tails;
-        marks = marks_else t.words 2 n t.lists q (λ l lt. omega arith) s.marks;
-        bells = bells_else t.words 2 n t.consumers t.lists q (λ c l fewer lt. omega arith) s.bells;
-        depth = depth_written t q (acted q h (acts.GiveBack size)) n s (omega (arith, depth, less.0, less.1));
-        draws = draws_else t.words 2 n t.rows t.drawer q (omega arith) (λ r none. omega arith) (λ r none. omega arith) s.draws;
-        reserved = reserved_after_act t q h (acts.GiveBack size) (with_less (t.reserved h) size) s.reserved
-            (own_giving q h size s.sound can ∙ ap (λ (v : Reservation). with_less v size) (s.reserved h));
-      },
+      depth_kept t q h (slice_index t.words 2 - (entry_worth + size)) (with_less (t.reserved h) size) (acted q h (acts.GiveBack size)).reserved s
+          (sound_step q h (acts.GiveBack size) can s.sound)
+          (omega (arith, depth, less.0, less.1))
+          (reserved_after_act t q h (acts.GiveBack size) (with_less (t.reserved h) size) s.reserved (own_giving q h size s.sound can ∙ ap (λ (v : Reservation). with_less v size) (s.reserved h))),
     )

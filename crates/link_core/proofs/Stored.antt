@@ -1,22 +1,15 @@
 -- what the writes of a step make of the vectors is the table that the step leaves
-use Rattle.std.proofs.Common.{◌≡◌, ◌≢◌, ℕ, true, arith, ◌<◌, Option, Some, None, List, length, get_or, set, refl, sym, ap, ◌∙◌, subst, ⊎_elim, get_or-set_same, get_or-set_other}
+use Rattle.std.proofs.Common.{◌≡◌, ◌≢◌, ℕ, true, arith, ◌<◌, Option, List, length, get_or, set, refl, sym, ap, ◌∙◌, subst, ⊎_elim, get_or-set_same, get_or-set_other}
 use Rattle.std.proofs.lemmas.Bool.{cases_eq, ltb-true}
 use Rattle.acts_core.specs.declared.queues.Reservation.{Reservation}
 use Rattle.acts_core.specs.declared.steps.Change.TheVariants.{Acq, Lock, Unlock, Steal, Rel, Deq, Del}
 use Rattle.acts_core.specs.declared.steps.Step.{Step}
 use Rattle.acts_core.specs.declared.steps.Step.TheVariants.{Draw, Draft, Link, HelpTail, Load, State, Reserve, GiveBack}
-use Rattle.link_core.specs.Kept.{IsKept, SetsBelow, drawers_after, table_in}
+use Rattle.link_core.specs.Kept.{IsKept, SetsBelow, drawers_of, table_in}
 use Rattle.link_core.specs.Steps.{Fits, hits, changed_by, place_of_step, word_after, drawer_after, reserves_after}
 use Rattle.link_core.specs.Table.{Table, top, but}
 use Rattle.link_core.specs.declared.store.Store.{Store}
 use Rattle.link_core.proofs.Frames.{but_here, but_else}
-
--- a write of a list is a change of its function at one number
-set_is_but : {X : Type 0} (xs : List X) (i k : ℕ) (v d : X) → i < length xs → get_or (set xs i v) k d ≡ but (λ n. get_or xs n d) i v k
-set_is_but xs i k v d lt = ⊎_elim
-    (λ (e : k ≡ i). subst (λ (n : ℕ). get_or (set xs i v) n d ≡ but (λ m. get_or xs m d) i v n) (sym e) (get_or-set_same xs i v d lt ∙ sym (but_here (λ n. get_or xs n d) i v)))
-    (λ (ne : k ≢ i). get_or-set_other xs i k v d ne ∙ sym (but_else (λ n. get_or xs n d) i v k ne))
-    (cases_eq k i)
 
 -- what is reserved after a step is still the caller's
 reserves_holder : (t : Table) (h : ℕ) (step : Step) → (reserves_after t h step).holder ≡ (t.reserved h).holder
@@ -44,25 +37,11 @@ module _ (rows lists consumers callers : ℕ) where
     consumers = consumers;
     callers = callers;
     words = words;
-    drawer = λ r. get_or drawers r None;
+    drawer = drawers_of drawers;
     reserved = λ h. record { holder = h; entries = get_or entries h 0; bytes = get_or bytes h 0 };
   }
 
   module _ (words entries bytes : List ℕ) (drawers : List (Option ℕ)) (h : ℕ) (step : Step) where
-    drawer_same : (k : ℕ) → SetsBelow (length drawers) (top (listed words drawers entries bytes)) step
-        → get_or (drawers_after drawers (top (listed words drawers entries bytes)) h step) k None ≡ drawer_after (listed words drawers entries bytes) h step k
-    drawer_same k below = by_step step below where
-      by_step : (s : Step) → SetsBelow (length drawers) (top (listed words drawers entries bytes)) s
-          → get_or (drawers_after drawers (top (listed words drawers entries bytes)) h s) k None ≡ drawer_after (listed words drawers entries bytes) h s k
-      by_step Draw low = set_is_but drawers (get_or words 0 0) k (Some h) None low
-      by_step (Draft r w value) low = refl
-      by_step (Link r node) low = set_is_but drawers r k None None low
-      by_step (HelpTail l from to) low = refl
-      by_step (Load name) low = refl
-      by_step (State r change from) low = refl
-      by_step (Reserve size) low = refl
-      by_step (GiveBack size) low = refl
-
     reserved_same : (v : Reservation) (k : ℕ) → h < length entries → h < length bytes → v.holder ≡ h
         → record { holder = k; entries = get_or (set entries h v.entries) k 0; bytes = get_or (set bytes h v.bytes) k 0 } ≡ but (listed words drawers entries bytes).reserved h v k
     reserved_same v k le lb own = ⊎_elim
@@ -79,16 +58,15 @@ module _ (rows lists consumers callers : ℕ) where
     -- all writes together
     pub changed_same : (words' : List ℕ) (drawers' : List (Option ℕ)) (v : Reservation)
         → words' ≡ set words (place_of_step step) (word_after (listed words drawers entries bytes) h step)
-        → drawers' ≡ drawers_after drawers (top (listed words drawers entries bytes)) h step
+        → drawers_of drawers' ≡ drawer_after (drawers_of drawers) (top (listed words drawers entries bytes)) h step
         → v ≡ reserves_after (listed words drawers entries bytes) h step
-        → SetsBelow (length drawers) (top (listed words drawers entries bytes)) step → h < length entries → h < length bytes
+        → h < length entries → h < length bytes
         → listed words' drawers' (set entries h v.entries) (set bytes h v.bytes) ≡ changed_by (listed words drawers entries bytes) h step
-    changed_same words' drawers' v we de ve below le lb =
+    changed_same words' drawers' v we de ve le lb =
         let own : v.holder ≡ h = ap (λ (u : Reservation). u.holder) ve ∙ reserves_holder (listed words drawers entries bytes) h step in
-        let drawer : (k : ℕ) → get_or drawers' k None ≡ drawer_after (listed words drawers entries bytes) h step k = λ k. ap (λ (ds : List (Option ℕ)). get_or ds k None) de ∙ drawer_same k below in
         let reserved : (k : ℕ) → record { holder = k; entries = get_or (set entries h v.entries) k 0; bytes = get_or (set bytes h v.bytes) k 0 } ≡ but (listed words drawers entries bytes).reserved h (reserves_after (listed words drawers entries bytes) h step) k =
         λ k. reserved_same v k le lb own ∙ ap (λ (u : Reservation). but (listed words drawers entries bytes).reserved h u k) ve in
-        λ i. record { rows = rows; lists = lists; consumers = consumers; callers = callers; words = we i; drawer = λ k. drawer k i; reserved = λ k. reserved k i }
+        λ i. record { rows = rows; lists = lists; consumers = consumers; callers = callers; words = we i; drawer = de i; reserved = λ k. reserved k i }
 
 -- the drawer that a step sets has a place
 pub sets_below : (s : Store) (h : ℕ) (step : Step) → IsKept s → Fits (table_in s) h step → hits (table_in s) step ≡ true → SetsBelow (length s.drawers.items) (top (table_in s)) step

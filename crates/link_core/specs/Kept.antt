@@ -1,5 +1,5 @@
 -- the vectors that keep a table of words
-use Rattle.std.specs.Prelude.{◌≡◌, ℕ, ◌<◌, Option, Some, None, List, length, slice_index, slice_index_or, slice_set}
+use Rattle.std.specs.Prelude.{◌≡◌, ℕ, ◌<◌, Option, None, List, length, slice_index, slice_index_or}
 use Rattle.acts_core.specs.declared.queues.Queue.{Queue}
 use Rattle.acts_core.specs.declared.steps.Step.{Step}
 use Rattle.acts_core.specs.declared.steps.Step.TheVariants.{Draw, Link}
@@ -18,6 +18,10 @@ pub record Vectors : Type 0 where
   pub entries : List ℕ
   pub bytes : List ℕ
 
+-- the drawer that a list has of each row
+abbrev pub drawers_of : List (Option ℕ) → ℕ → Option ℕ
+drawers_of drawers r = slice_index_or drawers r None
+
 -- the table that the vectors keep
 abbrev pub table_of : Vectors → Table
 table_of v = record {
@@ -26,7 +30,7 @@ table_of v = record {
   consumers = v.consumers;
   callers = v.callers;
   words = v.words;
-  drawer = λ r. slice_index_or v.drawers r None;
+  drawer = drawers_of v.drawers;
   reserved = λ h. record { holder = h; entries = slice_index v.entries h; bytes = slice_index v.bytes h };
 }
 
@@ -55,9 +59,3 @@ abbrev pub SetsBelow : ℕ → ℕ → Step → Type 0
 SetsBelow n next Draw = next < n
 SetsBelow n next (Link r node) = r < n
 SetsBelow n next step = Unit {0}
-
--- the drawers after a step that changes its word
-abbrev pub drawers_after : List (Option ℕ) → ℕ → ℕ → Step → List (Option ℕ)
-drawers_after drawers next h Draw = slice_set drawers next (Some h)
-drawers_after drawers next h (Link r node) = slice_set drawers r None
-drawers_after drawers next h step = drawers

@@ -17,8 +17,7 @@ use Rattle.acts_core.specs.declared.steps.Step.TheVariants.{Draw, Draft, Link, H
 use Rattle.acts_core.specs.declared.steps.WordName.{WordName}
 use Rattle.acts_core.specs.declared.steps.WordName.TheVariants as names
 use Rattle.acts_core.specs.History.{deeds_of}
-use Rattle.acts_core.specs.Laws.{with_more, with_less}
-use Rattle.acts_core.specs.Table.{CanGive, most_bytes, most_entries}
+use Rattle.acts_core.specs.Table.{CanGive, most_bytes, most_entries, with_more, with_less}
 use Rattle.link_core.specs.Layout.{link_of, tail_of, state_of, draft_of, place_of_word, pack_state, pack_node, entry_worth}
 use Rattle.link_core.specs.Table.{Table, top, but, IsLinked, IsNode, list_of_node}
 
@@ -188,11 +187,11 @@ word_after t h (State r change from) = pack_state (goes_to h change)
 word_after t h (Reserve size) = slice_index t.words 2 + (entry_worth + size)
 word_after t h (GiveBack size) = slice_index t.words 2 - (entry_worth + size)
 
--- the drawers afterwards: a draw makes the caller one, and a link ends that
-abbrev pub drawer_after : Table → ℕ → Step → ℕ → Option ℕ
-drawer_after t h Draw = but t.drawer (top t) (Some h)
-drawer_after t h (Link r node) = but t.drawer r None
-drawer_after t h step = t.drawer
+-- the drawer of each row afterwards: a draw makes the caller that of the next row, and a link ends that
+abbrev pub drawer_after : (ℕ → Option ℕ) → ℕ → ℕ → Step → ℕ → Option ℕ
+drawer_after drawer next h Draw = but drawer next (Some h)
+drawer_after drawer next h (Link r node) = but drawer r None
+drawer_after drawer next h step = drawer
 
 -- what the caller has reserved afterwards
 abbrev pub reserves_after : Table → ℕ → Step → Reservation
@@ -204,7 +203,7 @@ reserves_after t h step = t.reserved h
 
 -- the table that a step leaves where it changes its word
 abbrev pub changed_by : Table → ℕ → Step → Table
-changed_by t h s = record t { words = slice_set t.words (place_of_step s) (word_after t h s); drawer = drawer_after t h s; reserved = but t.reserved h (reserves_after t h s) }
+changed_by t h s = record t { words = slice_set t.words (place_of_step s) (word_after t h s); drawer = drawer_after t.drawer (top t) h s; reserved = but t.reserved h (reserves_after t h s) }
 
 -- the table afterwards
 abbrev pub moved : Table → ℕ → Step → Table

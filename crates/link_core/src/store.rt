@@ -1,11 +1,11 @@
 //! The vectors that keep the words, and what a step that fits does to them.
 ghost use Rattle.std.specs.Prelude.{◌≡◌, ◌+◌, ◌-◌, ◌<◌, ◌≤◌, ◌^◌, ℕ, true, length, slice_index, slice_index_or, OnErr};
 ghost use Rattle.link_core.specs.Advanced.{Advances};
-ghost use Rattle.link_core.specs.Kept.{drawers_after, IsKept, IsLong, SetsBelow, table_in};
-ghost use Rattle.link_core.specs.Steps.{changed_by, Fits, goes_to, hits, reserves_after, shown, size_in, word_after};
+ghost use Rattle.link_core.specs.Kept.{drawers_of, IsKept, IsLong, SetsBelow, table_in};
+ghost use Rattle.link_core.specs.Steps.{changed_by, drawer_after, Fits, goes_to, hits, reserves_after, shown, size_in, word_after};
 ghost use Rattle.link_core.specs.Table.{IsLinked};
 ghost use Rattle.acts_core.specs.declared.queues.Reservation.{Reservation};
-ghost use Rattle.acts_core.specs.Laws.{with_less, with_more};
+ghost use Rattle.acts_core.specs.Table.{with_less, with_more};
 
 use crate::places::{ENTRY_WORTH, node_word, state_word, step_place};
 use crate::stepping::Unfit;
@@ -215,7 +215,8 @@ impl Store {
 /// Sets the drawer that a step sets, if any. The next row to be drawn is given.
 fn set_drawer(drawers: &mut Vec<Option<u64>>, next: u64, caller: u64, step: Step)
     requires { SetsBelow (length drawers.old.items) next step }
-    ensures { drawers.new.items ≡ drawers_after drawers.old.items next caller step }
+    ensures drawers { drawers_of drawers.new.items ≡ drawer_after (drawers_of drawers.old.items) next caller step }
+    ensures long { length drawers.new.items ≡ length drawers.old.items }
 {
     match step {
         Step::Draw => drawers[next as usize] = Some(caller),

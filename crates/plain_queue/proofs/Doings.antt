@@ -14,10 +14,11 @@ use Rattle.acts_core.specs.declared.rows.RowState.{RowState}
 use Rattle.acts_core.specs.declared.rows.RowState.TheVariants.{Available, Locked, Unlocked, Dequeued, Deleted}
 use Rattle.acts_core.specs.Keyed.{alter}
 use Rattle.acts_core.specs.State.{is_row, is_holder, nothing, size_at, entries, row_entries, row_bytes, counts}
-use Rattle.acts_core.specs.Table.{Can, CanGive, acted, in_state, left_in, less, most_bytes, most_entries}
+use Rattle.acts_core.specs.Table.{Can, CanGive, acted, in_state, left_in, less, reserving, most_bytes, most_entries}
 use Rattle.acts_core.specs.History.{Does, deeds_of}
 use Rattle.plain_queue.specs.Calls.{put_acts, take_acts, release_acts, ack_acts, plain_slip, is_available, is_locked_by}
 use Rattle.acts_core.specs.Sound.{Sound}
+use Rattle.acts_core.proofs.RowFacts.{first_entry}
 use Rattle.acts_core.proofs.SoundSteps.{sound_after}
 use Rattle.plain_queue.specs.Rows.{one_list, NumberedFrom, Keeps}
 use Rattle.plain_queue.proofs.Numbered.{found_by_number, changed_by_number, next_is_new, numbered_set, numbered_push}
@@ -33,6 +34,10 @@ does_first q mid new h a acts can e rest =
     record { legal = (can, from.legal); state = from.state }
 
 -- Reservations of one entry
+
+-- the first entry that is reserved is all that is
+first_reserved : (rows : List Row) (h size : ℕ) → reserving (one_list rows) h size ≡ record { lists = 1; consumers = 0; rows = rows; reserved = record { holder = h; entries = 1; bytes = size } ∷ []; bells = [] }
+first_reserved rows h size = ap (λ (v : Reservation). record { lists = 1; consumers = 0; rows = rows; reserved = v ∷ []; bells = [] }) (sym (first_entry h size))
 
 -- what a caller has reserved where it alone has reserved, one entry
 one_reserved : (h size : ℕ) → unwrap_or (find (is_holder h) (record { holder = h; entries = 1; bytes = size } ∷ [])) (nothing h) ≡ record { holder = h; entries = 1; bytes = size }
@@ -57,8 +62,8 @@ pub put_does : (rows : List Row) (id : ℕ) (content : List ℕ) (h : ℕ) → N
 put_does rows id content h numbered small room =
     let size = length content in
     let mid : Queue = record { lists = 1; consumers = 0; rows = rows; reserved = record { holder = h; entries = 1; bytes = size } ∷ []; bells = [] } in
-    does_first (one_list rows) mid _ h (Reserve size) _ (small, room) refl
-    (does_first mid _ _ h (Enq (length rows) (plain_slip id content) content [] 0) [] (record { new = next_is_new 0 (length rows) rows numbered (omega arith); size = small; list = omega arith; mask = omega arith; reserved = gives_one _ h size (one_reserved h size) })
+    does_first (one_list rows) mid _ h (Reserve size) _ (small, room) (first_reserved rows h size)
+    (does_first mid _ _ h (Enq (length rows) (plain_slip id content) content [] 0) [] (record { new = next_is_new 0 (length rows) rows numbered (omega arith); fits = record { size = small; list = omega arith; mask = omega arith }; reserved = gives_one _ h size (one_reserved h size) })
     (ap (λ rs. record { lists = 1; consumers = 0; rows = rows ++ new_row (length rows) id content ∷ []; reserved = rs; bells = [] }) (none_reserved h size))
     (does_none _ h))
 
@@ -87,7 +92,8 @@ module _ (rows : List Row) (i : ℕ) (x : Row) (h : ℕ) (numbered : NumberedFro
       let out_here : y ≡ get_or out i y = sym (get_or-set_same rows i y y inside) in
       let held : Queue = record { lists = 1; consumers = 0; rows = out; reserved = v ∷ []; bells = [] } in
       does_first (one_list rows) held _ h (Deq x.number) _ (x, found, s)
-      (ap (λ (xs : List Row). record { lists = 1; consumers = 0; rows = xs; reserved = record { holder = h; entries = 1; bytes = size_at (one_list rows) x.number } ∷ []; bells = [] }) (changed_by_number (in_state Dequeued) i rows x numbered inside here)
+      (first_reserved (alter (is_row x.number) (option_map (in_state Dequeued)) rows) h (size_at (one_list rows) x.number)
+      ∙ ap (λ (xs : List Row). record { lists = 1; consumers = 0; rows = xs; reserved = record { holder = h; entries = 1; bytes = size_at (one_list rows) x.number } ∷ []; bells = [] }) (changed_by_number (in_state Dequeued) i rows x numbered inside here)
       ∙ ap (λ (o : Option Row). record { lists = 1; consumers = 0; rows = out; reserved = record { holder = h; entries = 1; bytes = option_map_or (λ (z : Row). z.slip.size) o 0 } ∷ []; bells = [] }) found)
       (does_first held (one_list out) _ h (GiveBack x.slip.size) _ (gives_one _ h x.slip.size (one_reserved h x.slip.size))
       (ap (λ rs. record { lists = 1; consumers = 0; rows = out; reserved = rs; bells = [] }) (none_reserved h x.slip.size))

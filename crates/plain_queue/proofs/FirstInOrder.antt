@@ -7,7 +7,7 @@ use Rattle.acts_core.specs.declared.rows.Row.{Row}
 use Rattle.acts_core.specs.declared.rows.RowState.TheVariants.{Available}
 use Rattle.acts_core.specs.Keyed.{Apart}
 use Rattle.acts_core.specs.Order.{ByList, Precedes}
-use Rattle.acts_core.specs.Sound.{Sound, FitsQueue, same_number}
+use Rattle.acts_core.specs.Sound.{Sound, RowFits, same_number}
 use Rattle.acts_core.specs.State.{is_row, is_of_list, row_at, rows_of, place_at}
 use Rattle.acts_core.proofs.KeyedLemmas.{find-here, find-past, find_passes, position-here, position-past}
 use Rattle.acts_core.proofs.SoundSteps.{list_found, row_fits}
@@ -75,7 +75,7 @@ first_before p (z ∷ zs) x y apart found also passes other = ⊎_elim
     (cases_Bool (p z))
 
 -- where there is one list, all rows are of it
-all_of_list : (c : ℕ) (xs : List Row) → AllByRecursion (FitsQueue 1 c) xs → filter (is_of_list 0) xs ≡ xs
+all_of_list : (c : ℕ) (xs : List Row) → AllByRecursion (RowFits 1 c) xs → filter (is_of_list 0) xs ≡ xs
 all_of_list c [] all = refl
 all_of_list c (z ∷ zs) all =
     let l : z.slip.list < 1 = all.0.list in
@@ -90,7 +90,7 @@ list_zero q x sound one found = let l : x.slip.list < q.lists = (row_fits q x.nu
 place_of_all : (q : Queue) (x : Row) → Sound q → q.lists ≡ 1 → row_at q x.number ≡ Some x → place_at q x.number ≡ position_or_len (is_row x.number) q.rows
 place_of_all q x sound one found =
     ap (λ (l : ℕ). position_or_len (is_row x.number) (rows_of q l)) (list_found q x.number x found ∙ list_zero q x sound one found)
-    ∙ ap (position_or_len (is_row x.number)) (all_of_list q.consumers q.rows (subst (λ (n : ℕ). AllByRecursion (FitsQueue n q.consumers) q.rows) one sound.rows_fit))
+    ∙ ap (position_or_len (is_row x.number)) (all_of_list q.consumers q.rows (subst (λ (n : ℕ). AllByRecursion (RowFits n q.consumers) q.rows) one sound.rows_fit))
 
 pub first_in_order : (q : Queue) (x : Row) → Sound q → q.lists ≡ 1 → first_available q ≡ Some x
     → (row_at q x.number ≡ Some x) × (x.state ≡ Available) × ((y : Row) → row_at q y.number ≡ Some y → y.state ≡ Available → y.number ≢ x.number → Precedes ByList q x y)

@@ -4,6 +4,7 @@ ghost use Rattle.std.specs.List.{find};
 ghost use Rattle.std.specs.Str.{bytes_eq};
 ghost use Rattle.serde_json.specs.View.{view};
 ghost use Rattle.fields_read.specs.Faults.{passes_unless};
+ghost use Rattle.defs_read.specs.Allowed.{most_queues};
 ghost use Rattle.defs_read.specs.Defined.{queues_in};
 ghost use Rattle.script_read.specs.Causes.{consumer_named, queue_named};
 ghost use Rattle.script_read.specs.Parts.{early_fault, early_message_fault, fields_fault, names_no_consumer, names_no_queue, text_or_none, verb_said};
@@ -43,7 +44,7 @@ pub(crate) fn verb_of(value: &Value) -> Result<Verb, LineFault>
 
 /// The number of the queue that the line names.
 pub(crate) fn queue_named(value: &Value, defs: &Defs) -> Option<u32>
-    requires few { length (queues_in defs.now) ≤ 16 }
+    requires few { length (queues_in defs.now) ≤ most_queues }
     ensures { result ≡ queue_named (queues_in defs.now) (view value.now) }
 {
     let name = text_bytes(value, Field::Queue);
@@ -86,7 +87,7 @@ pub(crate) fn consumer_named(value: &Value, defs: &Defs) -> Option<u32>
 /// Whether the line names a queue that is not defined.
 #[tactic(auto, unfolding(crate::specs::Parts::names_no_queue))]
 fn names_no_queue(value: &Value, defs: &Defs) -> bool
-    requires few { length (queues_in defs.now) ≤ 16 }
+    requires few { length (queues_in defs.now) ≤ most_queues }
     ensures { result ≡ names_no_queue (queues_in defs.now) (view value.now) }
 {
     value.get(Field::Queue.name()).is_some() && queue_named(value, defs).is_none()
@@ -118,7 +119,7 @@ fn check_fields(
 
 /// Tests a line that does this: its fields, their values, and the queue and the consumer that it names.
 pub(crate) fn check_line(value: &Value, verb: Verb, defs: &Defs) -> Result<(), LineFault>
-    requires few { length (queues_in defs.now) ≤ 16 }
+    requires few { length (queues_in defs.now) ≤ most_queues }
     ensures { result ≡ passes_unless (early_fault (queues_in defs.now) (view value.now) verb) }
 {
     let fields = verb.fields();

@@ -1,5 +1,6 @@
 //! Each kind of line once, each cause once, and which of two causes is given.
 ghost use Rattle.std.specs.Prelude.{◌≤◌, length};
+ghost use Rattle.defs_read.specs.Allowed.{most_queues};
 ghost use Rattle.defs_read.specs.Defined.{queues_in};
 
 use super::*;
@@ -352,7 +353,7 @@ fn consumer(rt: &impl Abort, alloc: Global, name: &str, actor: &str, number: u32
 
 /// Queue `p` with the consumer `c` of the actor `a`; queue `q` with `d` of `b` and `e` of `a`.
 fn two_queues(rt: &impl Abort, alloc: Global) -> Defs
-    ensures { length (queues_in result) ≤ 16 }
+    ensures { length (queues_in result) ≤ most_queues }
 {
     let first = [consumer(rt, alloc, "c", "a", 0)];
     let later = [
@@ -390,7 +391,7 @@ fn put<'a>(rt: &impl Abort, line: &'a Line) -> (u32, &'a Message) {
 
 /// Why the text is no line.
 fn fault(rt: &impl Abort, alloc: Global, defs: &Defs, text: &[u8]) -> LineFault
-    requires { length (queues_in defs.now) ≤ 16 }
+    requires { length (queues_in defs.now) ≤ most_queues }
 {
     read_line(alloc, text, 2, defs).err().expect(rt, "a fault")
 }

@@ -2,6 +2,7 @@
 ghost use Rattle.std.specs.Prelude.{◌≡◌, ◌≤◌, length, MatchResult, Ok, Err, None};
 ghost use Rattle.serde_json.specs.View.{view};
 ghost use Rattle.fields_read.specs.Faults.{values_fault};
+ghost use Rattle.defs_read.specs.Allowed.{most_queues};
 ghost use Rattle.defs_read.specs.Defined.{queues_in};
 ghost use Rattle.script_read.specs.Causes.{line_fault};
 ghost use Rattle.script_read.specs.Parts.{late_fault, value_said};
@@ -37,7 +38,7 @@ fn read_value(alloc: Global, line: &[u8]) -> Result<Value, LineFault>
 
 /// The number of the queue that the line names; 0 where it names none.
 fn queue_number(value: &Value, defs: &Defs) -> u32
-    requires few { length (queues_in defs.now) ≤ 16 }
+    requires few { length (queues_in defs.now) ≤ most_queues }
     ensures { result ≡ queue_number (queues_in defs.now) (view value.now) }
 {
     queue_named(value, defs).unwrap_or(0)
@@ -53,7 +54,7 @@ fn consumer_number(value: &Value, defs: &Defs) -> u32
 /// What the line does by this verb, where it has no earlier cause; none where it is a rest. TooLong where its message
 /// passes a limit.
 fn what_by(alloc: Global, verb: Verb, value: Value, defs: &Defs) -> Result<Option<What>, LineFault>
-    requires few { length (queues_in defs.now) ≤ 16 }
+    requires few { length (queues_in defs.now) ≤ most_queues }
     requires checked { values_fault (fields_of verb) (view value) ≡ None }
     ensures { Gives result (unless (late_fault (view value) verb) (what_by (queues_in defs.now) (view value) verb)) }
 {
@@ -90,7 +91,7 @@ fn line_by(
     line: u64,
     defs: &Defs,
 ) -> Result<Line, LineFault>
-    requires few { length (queues_in defs.now) ≤ 16 }
+    requires few { length (queues_in defs.now) ≤ most_queues }
     requires checked { values_fault (fields_of verb) (view value) ≡ None }
     ensures { Gives result (unless (late_fault (view value) verb) (line_by (queues_in defs.now) line (view value) verb)) }
 {
@@ -107,7 +108,7 @@ fn line_by(
 
 /// The line of this number that the value says, or its first cause.
 fn line_of(alloc: Global, value: Value, number: u64, defs: &Defs) -> Result<Line, LineFault>
-    requires few { length (queues_in defs.now) ≤ 16 }
+    requires few { length (queues_in defs.now) ≤ most_queues }
     ensures { Gives result (unless (line_fault (queues_in defs.now) (view value)) (line_in (queues_in defs.now) number (view value))) }
 {
     let verb = verb_of(&value)?;
@@ -118,7 +119,7 @@ fn line_of(alloc: Global, value: Value, number: u64, defs: &Defs) -> Result<Line
 /// The line of this number that the text says, where these queues are defined. Tests the line by itself, up to TooLong,
 /// and refuses with the first cause in the order that docs/SCRIPT.md gives; NoMemory may come in place of any.
 pub fn read_line(alloc: Global, line: &[u8], number: u64, defs: &Defs) -> Result<Line, LineFault>
-    requires few { length (queues_in defs.now) ≤ 16 }
+    requires few { length (queues_in defs.now) ≤ most_queues }
     ensures { Gives result (line_says (queues_in defs.now) number line.now) }
 {
     let value = read_value(alloc, line)?;

@@ -1,5 +1,6 @@
 //! Reads the lines of a script.
-ghost use Rattle.std.specs.Prelude.{◌≡◌, ◌≤◌, List, length};
+ghost use Rattle.std.specs.Prelude.{◌≡◌, ◌+◌, ◌^◌, ◌<◌, ◌≤◌, List, length};
+ghost use Rattle.defs_read.specs.Allowed.{most_queues};
 ghost use Rattle.defs_read.specs.Defined.{queues_in};
 ghost use Rattle.script_read.specs.Phases.{actors_in};
 ghost use Rattle.script_read.specs.Scripts.{GivesScript, line_after, script_of};
@@ -45,7 +46,7 @@ fn read_next(
     journal: bool,
     so_far: &mut SoFar,
 ) -> Result<(), LineFault>
-    requires few { length (queues_in defs.now) ≤ 16 }
+    requires few { length (queues_in defs.now) ≤ most_queues }
     ensures { (ls : List Line) → Tracks so_far.old ls → AddsLine result (line_after (queues_in defs.now) journal ls number text.now) so_far.new ls }
 {
     let line = read_line(alloc, text, number, defs)?;
@@ -59,7 +60,7 @@ fn read_next(
 }
 
 /// Reads all lines behind the definitions, the first of which has the number `from`. Blank lines are counted and passed
-/// over. `journal` says whether the run has a journal. Refuses with the first line that has a cause, and the first of
+/// over: each has its line feed, so that the numbers are below 2^64. `journal` says whether the run has a journal. Refuses with the first line that has a cause, and the first of
 /// its causes in the order that docs/SCRIPT.md gives; NoMemory may come in place of any, and then the line tells
 /// nothing.
 pub fn read_script(
@@ -69,8 +70,8 @@ pub fn read_script(
     journal: bool,
     from: u64,
 ) -> Result<Script, ScriptFault>
-    requires few { length (queues_in defs.now) ≤ 16 }
-    requires from { from ≤ 67108865 }
+    requires few { length (queues_in defs.now) ≤ most_queues }
+    requires numbers { from + length bytes.now < 2 ^ 64 }
     ensures { GivesScript result (script_of (queues_in defs.now) journal from bytes.now) }
 {
     let mut so_far = SoFar::new(alloc);

@@ -1,8 +1,10 @@
-use Rattle.std.proofs.Common.{◌≡◌, ◌∙◌, ap, sym, refl, Some, arith}
+use Rattle.std.proofs.Common.{◌≡◌, ◌∙◌, [], ◌∷◌, ◌++◌, ap, sym, refl, Some, arith}
 use Rattle.std.specs.List.{position, find}
+use Rattle.acts_core.specs.declared.queues.Reservation.{Reservation}
 use Rattle.acts_core.specs.State.{is_holder}
 use Rattle.acts_core.specs.Table.{more}
 use Rattle.acts_core.proofs.Positions.{written_is_alter, found_is_at, pushed_is_alter}
+use Rattle.acts_core.proofs.RowFacts.{first_entry}
 use Rattle.acts_core.proofs.field_lists.add_reserved.Goals as goal
 
 pub overflow_add-reservation : goal.overflow_add-reservation
@@ -29,4 +31,4 @@ returns-in-Some c =
 pub returns-in-None : goal.returns-in-None
 returns-in-None c =
     let p = is_holder c.args.holder in
-    c.push_reserved.ensures.items ∙ pushed_is_alter p (more c.args.holder c.args.size) c.args.reserved.now.items _ _ (c.holder_index.ensures ∙ ap (position p) c.deref.ensures.value) c.in-None.is refl
+    c.push_reserved.ensures.items ∙ ap (λ (v : Reservation). c.args.reserved.now.items ++ v ∷ []) (first_entry c.args.holder c.args.size) ∙ pushed_is_alter p (more c.args.holder c.args.size) c.args.reserved.now.items _ _ (c.holder_index.ensures ∙ ap (position p) c.deref.ensures.value) c.in-None.is refl

@@ -1,7 +1,7 @@
-use Rattle.std.proofs.Common.{◌≡◌, ◌∙◌, ◌-◌, ap, sym, cond, refl, Some, None, arith, eq-eqb, ne_eqb}
+use Rattle.std.proofs.Common.{◌≡◌, ◌∙◌, ap, sym, cond, refl, Some, None, arith, eq-eqb, ne_eqb}
 use Rattle.std.specs.List.{position, find}
 use Rattle.acts_core.specs.State.{is_holder}
-use Rattle.acts_core.specs.Table.{less}
+use Rattle.acts_core.specs.Table.{less, with_less}
 use Rattle.acts_core.proofs.Positions.{written_is_alter, removed_is_alter, found_is_at, same_is_alter}
 use Rattle.acts_core.proofs.field_lists.take_reserved.Goals as goal
 
@@ -26,7 +26,7 @@ returns-then-held-eq1 c =
     c.remove.ensures.items
     ∙ removed_is_alter p (less c.args.size) c.args.reserved.now.items _ c.in-Some.index v (c.holder_index.ensures ∙ ap (position p) c.deref.ensures.value) c.in-Some.is
     (ap (λ w. less c.args.size (Some w)) (sym c.index-held.ensures)
-    ∙ ap (λ b. cond b None (Some (record v { entries = v.entries - 1; bytes = v.bytes - c.args.size }))) (eq-eqb v.entries 1 c.if-held-eq1.true))
+    ∙ ap (λ b. cond b None (Some (with_less v c.args.size))) (eq-eqb v.entries 1 c.if-held-eq1.true))
 
 pub returns-else-held-eq1 : goal.returns-else-held-eq1
 returns-else-held-eq1 c =
@@ -34,7 +34,7 @@ returns-else-held-eq1 c =
     let v = c.index-held.result.now in
     written_is_alter p (less c.args.size) c.args.reserved.now.items _ c.in-Some.index v _ (c.holder_index.ensures ∙ ap (position p) c.deref.ensures.value) c.in-Some.is
     (ap (λ w. less c.args.size (Some w)) (sym c.index-held.ensures)
-    ∙ ap (λ b. cond b None (Some (record v { entries = v.entries - 1; bytes = v.bytes - c.args.size }))) (ne_eqb v.entries 1 c.if-held-eq1.false))
+    ∙ ap (λ b. cond b None (Some (with_less v c.args.size))) (ne_eqb v.entries 1 c.if-held-eq1.false))
 
 pub returns-in_default : goal.returns-in_default
 returns-in_default c =
