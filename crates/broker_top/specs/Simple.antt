@@ -10,6 +10,7 @@ is_simple_phase [] = true
 is_simple_phase (actor ∷ []) = list_all (λ op. is_served op.what) actor.1
 is_simple_phase (actor ∷ other ∷ actors) = false
 
+-- one such phase, and no rest
 abbrev pub is_simple : List Actors → Bool
 is_simple [] = false
 is_simple (phase ∷ []) = is_simple_phase phase

@@ -23,16 +23,19 @@ use Rattle.link_core.specs.Table.{Table, top, but, IsLinked, IsNode, list_of_nod
 
 -- Words by name
 
--- the draft words of row r
+-- the mask that the drawer of row r wrote down
 abbrev pub mask_in : Table → ℕ → ℕ
 mask_in t r = slice_index t.words (draft_of r drafts.Mask)
 
+-- its place in its list
 abbrev pub place_in : Table → ℕ → ℕ
 place_in t r = slice_index t.words (draft_of r drafts.Place)
 
+-- its size
 abbrev pub size_in : Table → ℕ → ℕ
 size_in t r = slice_index t.words (draft_of r drafts.Size)
 
+-- its list
 abbrev pub list_in : Table → ℕ → ℕ
 list_in t r = slice_index t.words (draft_of r drafts.List)
 

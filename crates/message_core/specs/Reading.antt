@@ -17,8 +17,8 @@ use Rattle.message_core.specs.Names.{is_among}
 abbrev pub Read : Type 0 → Type 0
 Read A = Result (A × List ℕ) ℕ
 
--- the next step goes on from what the one before gave; a fault ends the reading
 infixl 10 ◌>>=◌
+-- the next step goes on from what the one before gave; a fault ends the reading
 abbrev pub ◌>>=◌ : {A B : Type 0} → Result A ℕ → (A → Result B ℕ) → Result B ℕ
 (Ok x) >>= f = f x
 (Err left) >>= f = Err left

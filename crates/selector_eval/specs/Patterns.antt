@@ -3,9 +3,11 @@ use Rattle.std.specs.Prelude.{◌≡◌, ℕ, Bool, true, false, ◌&&◌, ◌||
 use Rattle.selector_eval.specs.declared.patterns.Part.{Part}
 use Rattle.selector_eval.specs.declared.patterns.Part.TheVariants.{Any, One, Exactly}
 
+-- the character that stands for any characters, or none
 abbrev pub percent : ℕ
 percent = 37
 
+-- the character that stands for any one
 abbrev pub underscore : ℕ
 underscore = 95
 

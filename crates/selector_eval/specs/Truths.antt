@@ -33,12 +33,14 @@ truth_or Unknown True = True
 truth_or Unknown False = Unknown
 truth_or Unknown Unknown = Unknown
 
--- the same of values
+-- the value is not true, in three-valued logic
 abbrev pub value_not : Value → Value
 value_not v = value_in (truth_not (truth_in v))
 
+-- both values are true, in three-valued logic
 abbrev pub value_and : Value → Value → Value
 value_and v w = value_in (truth_and (truth_in v) (truth_in w))
 
+-- one of the values is true, in three-valued logic
 abbrev pub value_or : Value → Value → Value
 value_or v w = value_in (truth_or (truth_in v) (truth_in w))

@@ -260,6 +260,7 @@ only_of [] = None
 only_of (c ∷ []) = Some c
 only_of (c ∷ d ∷ cs) = None
 
+-- the character of a text of one
 unfoldable pub only_character : List ℕ → Option ℕ
 only_character s = only_of (characters s)
 
@@ -303,6 +304,7 @@ finished_in fs (valued e l) = ended (settle 1 fs e)
 finished_in fs (pattern_read n x p) = ended (settle 1 fs (like n x p None))
 finished_in fs other = None
 
+-- the tree that is read where the text ends here, if its forms can end
 unfoldable pub finished : State → Option Tree
 finished s = finished_in s.begun s.mode
 

@@ -46,6 +46,7 @@ name_or_word letters (Some word) = token.Word word
 
 -- ---- the first token of a text
 
+-- what stands first in a text that is not blank there
 pub data First : Type 0 where
   -- this token, which takes so many bytes
   found : Token → ℕ → First
