@@ -1,5 +1,5 @@
 -- which status a call ends with, and what it writes
-use Rattle.std.specs.Prelude.{◌≡◌, ℕ, ◌<◌, ◌≤◌, ◌⊎◌, Option, Some, None, List, length, take, codes, Ok, Err}
+use Rattle.std.specs.Prelude.{◌≡◌, ℕ, ◌+◌, ◌≤◌, ◌⊎◌, Option, Some, None, List, length, take, codes, Ok, Err}
 use Rattle.acts_core.specs.History.{Legal}
 use Rattle.acts_core.specs.State.{empty}
 use Rattle.outside_io.specs.Told.{Adds}
@@ -50,20 +50,20 @@ Comes task ReadFault text left left' = text ≡ codes "fault: read\n"
 Comes task NoMemory text left left' = text ≡ codes "fault: memory\n"
 Comes task WriteFault text left left' = ⊥
 
--- the source's count of faults rose exactly where the status tells of it
+-- the source's count of faults rose, and by one, exactly where the status tells of it
 abbrev pub ReadFaults : Status → ℕ → ℕ → Type 0
-ReadFaults ReadFault faults faults' = faults < faults'
+ReadFaults ReadFault faults faults' = faults' ≡ faults + 1
 ReadFaults Done faults faults' = faults' ≡ faults
 ReadFaults InputRefused faults faults' = faults' ≡ faults
 ReadFaults WordsRefused faults faults' = faults' ≡ faults
 ReadFaults NoMemory faults faults' = faults' ≡ faults
 ReadFaults WriteFault faults faults' = faults' ≡ faults
 
--- The status's text was written, and the sink didn't fail. Or it failed, and some front of the text that goes with another status was written.
+-- The status's text was written, and the sink didn't fail. Or it failed once, and some front of the text that goes with another status was written.
 abbrev pub Tells : Status → Status → List ℕ → Option (List ℕ) → Option (List ℕ) → ℕ → ℕ → Type 0
 Tells result status text written written' faults faults' =
     ((result ≡ status) × (faults' ≡ faults) × Adds written written' text)
-    ⊎ ((result ≡ WriteFault) × (faults < faults') × ((n : ℕ) × (n ≤ length text) × Adds written written' (take n text)))
+    ⊎ ((result ≡ WriteFault) × (faults' ≡ faults + 1) × ((n : ℕ) × (n ≤ length text) × Adds written written' (take n text)))
 
 -- this text of a refusal was told, or want of memory
 abbrev pub TellsRefusal : List ℕ → Status → Option (List ℕ) → Option (List ℕ) → ℕ → ℕ → Type 0

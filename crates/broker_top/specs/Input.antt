@@ -27,10 +27,10 @@ pub record IsTooLarge (text : List ℕ) (left left' : Option (List ℕ)) : Type 
   pub large : length front ≡ input_limit + 1
   pub told : text ≡ too_large_text
 
--- Why a source was not read whole: one byte more than the limit was read, or the source failed. It failed in no other case.
+-- Why a source was not read whole: one byte more than the limit was read, or the source failed, once. It failed in no other case.
 abbrev pub LeavesUnread : Unread → Option (List ℕ) → Option (List ℕ) → ℕ → ℕ → Type 0
 LeavesUnread TooLarge left left' faults faults' = (faults' ≡ faults) × ((front : List ℕ) × Takes left left' front × (length front ≡ input_limit + 1))
-LeavesUnread Fault left left' faults faults' = faults < faults'
+LeavesUnread Fault left left' faults faults' = faults' ≡ faults + 1
 LeavesUnread NoMemory left left' faults faults' = faults' ≡ faults
 
 -- One read: some bytes came, at least one and at most so many, and are kept; or nothing is left.
@@ -40,9 +40,9 @@ ReadsTurn most turns.End left left' kept kept' = Takes left left' [] × AtEnd le
 ReadsTurn most turns.Fault left left' kept kept' = ⊤
 ReadsTurn most turns.NoMemory left left' kept kept' = ⊤
 
--- over one read the source's count of faults rose where the read failed, and else stayed
+-- over one read the source's count of faults rose by one where the read failed, and else stayed
 abbrev pub TurnFaults : turn.Turn → ℕ → ℕ → Type 0
 TurnFaults turns.More faults faults' = faults' ≡ faults
 TurnFaults turns.End faults faults' = faults' ≡ faults
-TurnFaults turns.Fault faults faults' = faults < faults'
+TurnFaults turns.Fault faults faults' = faults' ≡ faults + 1
 TurnFaults turns.NoMemory faults faults' = faults' ≡ faults

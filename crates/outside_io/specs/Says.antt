@@ -1,13 +1,13 @@
-use Rattle.std.specs.Prelude.{◌≡◌, ℕ, ◌<◌, ◌≤◌, List, ◌++◌, length, take, Option, Result, Ok, Err}
+use Rattle.std.specs.Prelude.{◌≡◌, ℕ, ◌+◌, ◌≤◌, List, ◌++◌, length, take, Option, Result, Ok, Err}
 use Rattle.outside_io.specs.Told.{Adds}
 use Rattle.outside_io.specs.declared.outside.Failed.{Failed}
 
 -- Over calls in which the count of faults went from f to g, none failed and the whole text was written; or one
--- failed, and some front of the text was written.
+-- failed and no other, and some front of the text was written.
 abbrev pub Says : {E : Type 0} → Result (Unit {0}) E →
     Option (List ℕ) → Option (List ℕ) → ℕ → ℕ → List ℕ → Type 0
 Says (Ok u) old new f g text = Adds old new text × (g ≡ f)
-Says (Err e) old new f g text = (f < g) × ((n : ℕ) × (n ≤ length text) × Adds old new (take n text))
+Says (Err e) old new f g text = (g ≡ f + 1) × ((n : ℕ) × (n ≤ length text) × Adds old new (take n text))
 
 -- where writing a text failed, writing that text and more has failed
 abbrev pub SaysCut : Type 0

@@ -1,4 +1,4 @@
-use Rattle.std.specs.Prelude.{◌≡◌, ℕ, ◌<◌, ◌≤◌, List, [], ◌++◌, length, take, Option, Some, None, Result, MatchResult, IfSome, OnOk, OnErr, ⊤}
+use Rattle.std.specs.Prelude.{◌≡◌, ℕ, ◌+◌, ◌<◌, ◌≤◌, List, [], ◌++◌, length, take, Option, Some, None, Result, MatchResult, IfSome, OnOk, OnErr, ⊤}
 
 -- what is told after a call was told before it, and then P holds of the two
 abbrev pub WhileTold : {A : Type 0} → Option A → Option A → (A → A → Type 0) → Type 0
@@ -18,10 +18,10 @@ Adds old new bytes = WhileTold old new (λ x y. y ≡ x ++ bytes)
 abbrev pub AtEnd : Option (List ℕ) → Type 0
 AtEnd left = IfSome left (λ x. x ≡ [])
 
--- over a call the count of faults rose where the call failed, and else stayed
+-- over a call the count of faults rose by one where the call failed, and else stayed
 pub record HasCause {T E : Type 0} (before now : ℕ) (result : Result T E) : Type 0 where
   pub kept : OnOk result (now ≡ before)
-  pub failed : OnErr result (before < now)
+  pub failed : OnErr result (now ≡ before + 1)
 
 -- a read took the n bytes in front of the buffer, 0 only at the end; where it failed it took nothing
 abbrev pub Reads : {E : Type 0} → Option (List ℕ) → Option (List ℕ) → Result ℕ E → List ℕ → Type 0

@@ -15,7 +15,7 @@ pub trait Source {
     /// The bytes that are left; None where the source doesn't tell them.
     ghost left: { Self → Option (List ℕ) };
 
-    /// How often a call has failed. It rises where a call fails, and else stays.
+    /// How often a call has failed. It rises by one where a call fails, and else stays.
     ghost faults: { Self → ℕ };
 
     /// Moves bytes from the front of what is left to the front of the buffer, as many as the answer
@@ -34,7 +34,7 @@ pub trait Sink {
     /// The bytes that were written; None where the sink doesn't tell them.
     ghost written: { Self → Option (List ℕ) };
 
-    /// How often a call has failed. It rises where a call fails, and else stays.
+    /// How often a call has failed. It rises by one where a call fails, and else stays.
     ghost faults: { Self → ℕ };
 
     /// Writes the first of the bytes, as many as the answer says: at least one. Where it fails it
