@@ -1,5 +1,5 @@
 //! A text in memory, as a sink.
-ghost use Rattle.std.specs.Prelude.{◌≡◌, ◌<◌, [], Some, IfSome, length};
+ghost use Rattle.std.specs.Prelude.{◌≡◌, ◌<◌, [], Some, MatchOption, length};
 ghost use Rattle.broker_top.specs.Text.{written_of};
 
 use outside_io::{Failed, Sink};
@@ -24,9 +24,9 @@ impl Text {
         }
     }
 
-    /// The bytes of the text; none where it ever refused.
+    /// The bytes of the text; none exactly where it ever refused.
     pub(crate) fn whole(self) -> Option<Vec<u8>>
-        ensures { IfSome result (λ bytes. written_of self ≡ Some bytes.items) }
+        ensures { MatchOption result (0 < self.refusals) (λ bytes. (self.refusals ≡ 0) × (written_of self ≡ Some bytes.items)) }
     {
         if self.refusals > 0 {
             return None;

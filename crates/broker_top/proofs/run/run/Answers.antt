@@ -43,4 +43,4 @@ returns-in-Some-whole-clause-text c =
     whole_text c.args.queue_name.now c.args.name.now told c.in-Some-whole.bytes.items c.running.running given c.args.ops.items
     (rw (c.in_default.ensures.items, none) at c.running.invariant.text)
     (rw (c.in_default.ensures.items, none) at c.running.invariant.moment)
-    (rw c.in-Some-whole.ensures at adds)
+    (rw c.in-Some-whole.ensures.1 at adds)
