@@ -36,12 +36,12 @@ pub entries_shown : (words : List ℕ) (q : Queue) → Sound q → IsDepth words
 entries_shown words q sound depth = let low = few_bytes q sound in let e : slice_index words 2 ≡ entries q * entry_worth + bytes q = depth in omega (arith, low, e)
 
 -- The word of the depth is written where a caller's reservation changes, and nothing else.
-depth_kept : (t : Table) (q : Queue) (h n : ℕ) (v : Reservation) (others : List Reservation) → Stands t q
+depth_word_kept : (t : Table) (q : Queue) (h n : ℕ) (v : Reservation) (others : List Reservation) → Stands t q
     → Sound (record q { reserved = others })
     → n ≡ pack_depth (entries (record q { reserved = others })) (bytes (record q { reserved = others }))
     → ((k : ℕ) → reserved_by (record q { reserved = others }) k ≡ but t.reserved h v k)
     → Stands (record t { words = slice_set t.words 2 n; reserved = but t.reserved h v }) (record q { reserved = others })
-depth_kept t q h n v others s sound depth reserved =
+depth_word_kept t q h n v others s sound depth reserved =
     let shape = shaped_set t q 2 n t.drawer t.reserved s.shaped in
     record {
       sound = sound;
@@ -65,7 +65,7 @@ reserve_kept t q h size s small few =
     let more = depth_reserving q h size in
     let depth : slice_index t.words 2 ≡ entries q * entry_worth + bytes q = s.depth in (
       can,
-      depth_kept t q h (slice_index t.words 2 + (entry_worth + size)) (with_more (t.reserved h) size) (acted q h (acts.Reserve size)).reserved s
+      depth_word_kept t q h (slice_index t.words 2 + (entry_worth + size)) (with_more (t.reserved h) size) (acted q h (acts.Reserve size)).reserved s
           (sound_step q h (acts.Reserve size) can s.sound)
           (omega (arith, depth, more.0, more.1))
           (reserved_after_act t q h (acts.Reserve size) (with_more (t.reserved h) size) s.reserved (own_reserving q h size ∙ ap (λ (v : Reservation). with_more v size) (s.reserved h))),
@@ -79,7 +79,7 @@ give_back_kept t q h size s give =
     let less = depth_giving q h size can in
     let depth : slice_index t.words 2 ≡ entries q * entry_worth + bytes q = s.depth in (
       can,
-      depth_kept t q h (slice_index t.words 2 - (entry_worth + size)) (with_less (t.reserved h) size) (acted q h (acts.GiveBack size)).reserved s
+      depth_word_kept t q h (slice_index t.words 2 - (entry_worth + size)) (with_less (t.reserved h) size) (acted q h (acts.GiveBack size)).reserved s
           (sound_step q h (acts.GiveBack size) can s.sound)
           (omega (arith, depth, less.0, less.1))
           (reserved_after_act t q h (acts.GiveBack size) (with_less (t.reserved h) size) s.reserved (own_giving q h size s.sound can ∙ ap (λ (v : Reservation). with_less v size) (s.reserved h))),

@@ -1,14 +1,13 @@
 -- what the writes of a step make of the vectors is the table that the step leaves
-use Rattle.std.proofs.Common.{◌≡◌, ◌≢◌, ℕ, true, arith, ◌<◌, Option, List, length, get_or, set, refl, sym, ap, ◌∙◌, subst, ⊎_elim, get_or-set_same, get_or-set_other}
-use Rattle.std.proofs.lemmas.Bool.{cases_eq, ltb-true}
+use Rattle.std.proofs.Common.{◌≡◌, ◌≢◌, ℕ, ◌<◌, Option, List, length, get_or, set, refl, sym, ap, ◌∙◌, subst, ⊎_elim, get_or-set_same, get_or-set_other}
+use Rattle.std.proofs.lemmas.Bool.{cases_eq}
 use Rattle.acts_core.specs.declared.queues.Reservation.{Reservation}
 use Rattle.acts_core.specs.declared.steps.Change.TheVariants.{Acq, Lock, Unlock, Steal, Rel, Deq, Del}
 use Rattle.acts_core.specs.declared.steps.Step.{Step}
 use Rattle.acts_core.specs.declared.steps.Step.TheVariants.{Draw, Draft, Link, HelpTail, Load, State, Reserve, GiveBack}
-use Rattle.link_core.specs.Kept.{IsKept, SetsBelow, drawers_of, table_in}
-use Rattle.link_core.specs.Steps.{Fits, hits, changed_by, place_of_step, word_after, drawer_after, reserves_after}
+use Rattle.link_core.specs.Kept.{drawers_of}
+use Rattle.link_core.specs.Steps.{changed_by, place_of_step, word_after, drawer_after, reserves_after}
 use Rattle.link_core.specs.Table.{Table, top, but}
-use Rattle.link_core.specs.declared.store.Store.{Store}
 use Rattle.link_core.proofs.Frames.{but_here, but_else}
 
 -- what is reserved after a step is still the caller's
@@ -67,14 +66,3 @@ module _ (rows lists consumers callers : ℕ) where
         let reserved : (k : ℕ) → record { holder = k; entries = get_or (set entries h v.entries) k 0; bytes = get_or (set bytes h v.bytes) k 0 } ≡ but (listed words drawers entries bytes).reserved h (reserves_after (listed words drawers entries bytes) h step) k =
         λ k. reserved_same v k le lb own ∙ ap (λ (u : Reservation). but (listed words drawers entries bytes).reserved h u k) ve in
         λ i. record { rows = rows; lists = lists; consumers = consumers; callers = callers; words = we i; drawer = de i; reserved = λ k. reserved k i }
-
--- the drawer that a step sets has a place
-pub sets_below : (s : Store) (h : ℕ) (step : Step) → IsKept s → Fits (table_in s) h step → hits (table_in s) step ≡ true → SetsBelow (length s.drawers.items) (top (table_in s)) step
-sets_below s h Draw kept fits hit = omega (arith, kept.long.drawers, ltb-true (top (table_in s)) s.rows hit)
-sets_below s h (Draft r w value) kept fits hit = tt
-sets_below s h (Link r node) kept fits hit = omega (arith, kept.long.drawers, fits.drawn.row)
-sets_below s h (HelpTail l from to) kept fits hit = tt
-sets_below s h (Load name) kept fits hit = tt
-sets_below s h (State r change from) kept fits hit = tt
-sets_below s h (Reserve size) kept fits hit = tt
-sets_below s h (GiveBack size) kept fits hit = tt

@@ -16,7 +16,7 @@ IsGone t r = slice_index t.words (state_of r) ≡ pack_state Deleted
 
 -- Unlinks: the link of a node moves from a deleted row to a later one of its list
 
--- The link is that of a head or of a linked row. It may lead past rows that are deleted, to a later row of the list that stays.
+-- The link is that of a head or of a linked row. It leads to a deleted row, and may lead to a later one of the same list where each row between is deleted too.
 pub record FitsUnlink (t : Table) (at : Node) (from to : ℕ) : Type 0 where
   pub node : IsNode t at
   pub out : IsLinked t from

@@ -60,9 +60,9 @@ fn read_next(
 }
 
 /// Reads all lines behind the definitions, the first of which has the number `from`. Blank lines are counted and passed
-/// over: each has its line feed, so that the numbers are below 2^64. `journal` says whether the run has a journal. Refuses with the first line that has a cause, and the first of
-/// its causes in the order that docs/SCRIPT.md gives; NoMemory may come in place of any, and then the line tells
-/// nothing.
+/// over. `from` and the number of bytes are together below 2^64, so that each line has a number. `journal` says whether
+/// the run has a journal. Refuses with the first line that has a cause, and the first of its causes in the order that
+/// docs/SCRIPT.md gives; NoMemory may come in place of any, and then the line tells nothing.
 pub fn read_script(
     alloc: Global,
     bytes: &[u8],
