@@ -1,10 +1,1 @@
-pub mod Room
 pub mod Load
-pub mod Keyed
-pub mod State
-pub mod Table
-pub mod History
-pub mod Order
-pub mod Sound
-pub mod Laws
-pub mod Applied

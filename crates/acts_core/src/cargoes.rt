@@ -2,7 +2,7 @@
 ghost use Rattle.std.specs.Prelude.{◌≡◌, ◌≤◌, length};
 ghost use Rattle.acts_core.specs.Load.{Load};
 
-use crate::rows::RowState;
+use queue_model::RowState;
 
 /// What a queue keeps for a message and hands to the holder of its row.
 pub trait Cargo: Send + Drop {

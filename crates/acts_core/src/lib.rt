@@ -1,27 +1,12 @@
-//! The vocabulary of a queue: rows and their states, acts and deeds, the state of a queue with its
-//! table of acts, and the laws that every later crate rests on.
+//! What every call of every queue means: cargo, the answers of calls, and the traits of queues. The lists of
+//! `byte_lists` and the model of `queue_model` are published here too.
 #![tactic(auto)]
 
-pub mod byte_lists;
 pub mod cargoes;
-pub mod deeds;
-mod field_lists;
-pub mod laws;
-pub mod limits;
-pub mod queues;
-pub mod rows;
-pub mod state;
-pub mod steps;
 
-pub use byte_lists::{Buffer, Bytes, NoMemory, Origin};
+pub use byte_lists::{Buffer, Bytes, MOST_BYTES, NoMemory, Origin};
 pub use cargoes::{Cargo, Locking, Next, Placed, Releasing, Stealing};
-pub use deeds::{Act, Deed, Unapplied};
-pub use field_lists::fits_mask;
-pub use limits::{MOST_BYTES, MOST_ENTRIES};
-pub use queues::{Bell, Depth, Limits, Policy, Queue, Reservation};
-pub use rows::{Row, RowState, Slip};
-pub use state::QueueState;
-pub use steps::{Change, DraftWord, Node, Step, WordName};
-
-#[cfg(test)]
-mod tests;
+pub use queue_model::{
+    Act, Bell, Change, Deed, Depth, DraftWord, Limits, MOST_ENTRIES, Node, Policy, Queue,
+    QueueState, Reservation, Row, RowState, Slip, Step, Tried, Unapplied, WordName, fits_mask,
+};

@@ -5,17 +5,17 @@ use Rattle.std.proofs.lemmas.List.Elements.{All-append}
 use Rattle.std.proofs.lemmas.List.Sums.{sum_by-append, sum_by-cons}
 use Rattle.std.specs.List.{flat_map, slice_get, sum_by, All, list_all}
 use Rattle.std.specs.Option.{option_map, option_map_or}
-use Rattle.acts_core.specs.declared.rows.RowState.{RowState}
-use Rattle.acts_core.specs.declared.rows.RowState.TheVariants.{Available, Locked, Unlocked, Dequeued, Deleted}
-use Rattle.acts_core.specs.declared.deeds.Act.{Act}
-use Rattle.acts_core.specs.declared.deeds.Act.TheVariants.{Acq, Rel, Deq, Del, Reserve, GiveBack, Enq}
-use Rattle.acts_core.specs.declared.queues.Queue.{Queue}
-use Rattle.acts_core.specs.declared.rows.Row.{Row}
-use Rattle.acts_core.specs.State.{counts, entries, bytes, row_bytes}
-use Rattle.acts_core.specs.Table.{acted}
-use Rattle.acts_core.specs.History.{after, Legal, deeds_of}
-use Rattle.acts_core.proofs.Depths.{depth_kept, depth_reserving, depth_giving}
-use Rattle.acts_core.proofs.Histories.{legal-append}
+use Rattle.queue_model.specs.declared.rows.RowState.{RowState}
+use Rattle.queue_model.specs.declared.rows.RowState.TheVariants.{Available, Locked, Unlocked, Dequeued, Deleted}
+use Rattle.queue_model.specs.declared.deeds.Act.{Act}
+use Rattle.queue_model.specs.declared.deeds.Act.TheVariants.{Acq, Rel, Deq, Del, Reserve, GiveBack, Enq}
+use Rattle.queue_model.specs.declared.queues.Queue.{Queue}
+use Rattle.queue_model.specs.declared.rows.Row.{Row}
+use Rattle.queue_model.specs.State.{counts, entries, bytes, row_bytes}
+use Rattle.queue_model.specs.Table.{acted}
+use Rattle.queue_model.specs.History.{after, Legal, deeds_of}
+use Rattle.queue_model.proofs.Depths.{depth_kept, depth_reserving, depth_giving}
+use Rattle.queue_model.proofs.Histories.{legal-append}
 use Rattle.message_core.specs.Spelling.{content}
 use Rattle.plain_queue.specs.Calls.{put_acts, take_acts, release_acts, ack_acts, plain_slip, first_available, held_row}
 use Rattle.report_core.specs.declared.answers.Resting.{Resting}

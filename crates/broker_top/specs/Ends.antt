@@ -1,7 +1,7 @@
 -- which status a call ends with, and what it writes
 use Rattle.std.specs.Prelude.{◌≡◌, ℕ, ◌+◌, ◌≤◌, ◌⊎◌, Option, Some, None, List, length, take, codes, Ok, Err}
-use Rattle.acts_core.specs.History.{Legal}
-use Rattle.acts_core.specs.State.{empty}
+use Rattle.queue_model.specs.History.{Legal}
+use Rattle.queue_model.specs.State.{empty}
 use Rattle.outside_io.specs.Told.{Adds}
 use Rattle.broker_top.specs.declared.status.Status.{Status}
 use Rattle.broker_top.specs.declared.status.Status.TheVariants.{Done, InputRefused, WordsRefused, ReadFault, WriteFault, NoMemory}

@@ -2,9 +2,9 @@
 use Rattle.std.specs.Prelude.{◌≡◌, ℕ, ◌+◌, ◌&&◌, Bool, true, false, not, cond, is_some, nat_le, if◌then◌else◌, Option, Some, None, List, [], ◌∷◌, Result, Ok, Err}
 use Rattle.std.specs.List.{list_all}
 use Rattle.std.specs.Str.{bytes_eq}
-use Rattle.acts_core.specs.Table.{most_entries}
-use Rattle.acts_core.specs.declared.queues.Policy.{Policy}
-use Rattle.acts_core.specs.declared.queues.Policy.TheVariants as policy
+use Rattle.queue_model.specs.Table.{most_entries}
+use Rattle.queue_model.specs.declared.queues.Policy.{Policy}
+use Rattle.queue_model.specs.declared.queues.Policy.TheVariants as policy
 use Rattle.defs_read.specs.Causes.{fault_of}
 use Rattle.defs_read.specs.Defined.{Defined}
 use Rattle.defs_read.specs.Values.{defs_of}

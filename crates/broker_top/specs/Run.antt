@@ -2,14 +2,14 @@
 use Rattle.std.specs.Prelude.{ℕ, false, ◌+◌, ◌-◌, ◌^◌, not, min, nat_eq, Option, Some, None, List, [], ◌∷◌, ◌++◌, filter, flat_map, length, slice_get}
 use Rattle.std.specs.Option.{option_map_or}
 use Rattle.std.specs.List.{count_by}
-use Rattle.acts_core.specs.declared.deeds.Act.{Act}
-use Rattle.acts_core.specs.declared.deeds.Deed.{Deed}
-use Rattle.acts_core.specs.declared.queues.Queue.{Queue}
-use Rattle.acts_core.specs.declared.rows.Row.{Row}
-use Rattle.acts_core.specs.declared.rows.RowState.{RowState}
-use Rattle.acts_core.specs.declared.rows.RowState.TheVariants.{Available, Locked, Unlocked, Dequeued, Deleted}
-use Rattle.acts_core.specs.State.{empty}
-use Rattle.acts_core.specs.History.{after, deeds_of}
+use Rattle.queue_model.specs.declared.deeds.Act.{Act}
+use Rattle.queue_model.specs.declared.deeds.Deed.{Deed}
+use Rattle.queue_model.specs.declared.queues.Queue.{Queue}
+use Rattle.queue_model.specs.declared.rows.Row.{Row}
+use Rattle.queue_model.specs.declared.rows.RowState.{RowState}
+use Rattle.queue_model.specs.declared.rows.RowState.TheVariants.{Available, Locked, Unlocked, Dequeued, Deleted}
+use Rattle.queue_model.specs.State.{empty}
+use Rattle.queue_model.specs.History.{after, deeds_of}
 use Rattle.message_core.specs.Spelling.{content}
 use Rattle.plain_queue.specs.Calls.{first_available, held_row, put_acts, take_acts, release_acts, ack_acts}
 use Rattle.report_core.specs.declared.answers.Answer.{Answer}

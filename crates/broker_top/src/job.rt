@@ -1,7 +1,7 @@
 //! Reads an input: the definitions and the script, as far as what they need is built.
 ghost use Rattle.std.specs.Prelude.{◌≡◌, ◌+◌, ◌^◌, ◌<◌, ◌≤◌, ◌∷◌, [], true, false, List, ℕ, length, IfOk, IfNone, IfSome, MatchOption, Ok};
 ghost use Rattle.std.specs.List.{list_all};
-ghost use Rattle.acts_core.specs.Table.{most_entries};
+ghost use Rattle.queue_model.specs.Table.{most_entries};
 ghost use Rattle.defs_read.specs.Allowed.{most_queues};
 ghost use Rattle.defs_read.specs.Defined.{queues_in};
 ghost use Rattle.script_read.specs.Lines.{lines_of, numbered};
@@ -14,8 +14,9 @@ ghost use Rattle.broker_top.specs.Running.{is_put, is_served, puts_in};
 ghost use Rattle.broker_top.specs.Simple.{is_simple, is_simple_phase};
 
 use crate::faults::InputFault;
-use acts_core::{Bytes, MOST_ENTRIES, NoMemory, Policy};
+use byte_lists::{Bytes, NoMemory};
 use defs_read::{ConsumerDef, Defs, DefsFault, QueueKind, read_defs};
+use queue_model::{MOST_ENTRIES, Policy};
 use script_read::{
     Line, LineFault, Op, Phase, Script, What, first_line, has_nothing, read_line, read_script,
 };

@@ -1,9 +1,9 @@
 //! Runs the lines of a script over one queue, and makes the text of the run.
 ghost use Rattle.std.specs.Prelude.{◌≡◌, ◌+◌, ◌<◌, ◌≤◌, ◌^◌, ◌++◌, [], ◌∷◌, List, ℕ, Some, length, true, IfOk, OnOk};
 ghost use Rattle.std.specs.List.{list_all};
-ghost use Rattle.acts_core.specs.History.{Legal};
-ghost use Rattle.acts_core.specs.State.{bytes, empty, entries};
-ghost use Rattle.acts_core.specs.Table.{most_entries};
+ghost use Rattle.queue_model.specs.History.{Legal};
+ghost use Rattle.queue_model.specs.State.{bytes, empty, entries};
+ghost use Rattle.queue_model.specs.Table.{most_entries};
 ghost use Rattle.outside_io.specs.Told.{Adds};
 ghost use Rattle.report_core.specs.Texts.{answer_line, queue_lines};
 ghost use Rattle.report_core.specs.Words.{words};
@@ -13,8 +13,9 @@ ghost use Rattle.broker_top.specs.Text.{written_of};
 
 use crate::running::{ACTOR, Running};
 use crate::text::Text;
-use acts_core::{Bytes, NoMemory, RowState};
+use byte_lists::{Bytes, NoMemory};
 use plain_queue::PlainQueue;
+use queue_model::RowState;
 use report_core::{Resting, write_answer, write_queue};
 use script_read::Op;
 use std::alloc::Global;

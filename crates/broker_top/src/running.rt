@@ -1,14 +1,14 @@
 //! Runs lines, one after another, over one queue.
 ghost use Rattle.std.specs.Prelude.{◌≡◌, ◌<◌, ◌≤◌, ◌++◌, ◌∷◌, [], true, List, ℕ, length, IfOk, OnOk};
-ghost use Rattle.acts_core.specs.State.{empty, entries};
-ghost use Rattle.acts_core.specs.Table.{most_bytes, most_entries};
+ghost use Rattle.queue_model.specs.State.{empty, entries};
+ghost use Rattle.queue_model.specs.Table.{most_bytes, most_entries};
 ghost use Rattle.message_core.specs.Spelling.{content};
 ghost use Rattle.report_core.specs.Words.{Fits};
 ghost use Rattle.broker_top.specs.Run.{answer_of, meant, next_delivery, without};
 ghost use Rattle.broker_top.specs.Running.{Counts, Steps, is_put, is_served, moment_of};
 ghost use Rattle.script_read.specs.declared.lines.What.TheVariants as what;
 
-use acts_core::{Buffer, Bytes, NoMemory};
+use byte_lists::{Buffer, Bytes, NoMemory};
 use message_core::Message;
 use plain_queue::PlainQueue;
 use report_core::{Answer, Span};

@@ -8,7 +8,7 @@ ghost use Rattle.broker_top.specs.Unread.{unread_status, unread_text};
 use crate::faults::{InputFault, defs_cause};
 use crate::input::Unread;
 use crate::status::Status;
-use acts_core::NoMemory;
+use byte_lists::NoMemory;
 use defs_read::DefsFault;
 use outside_io::{Sink, write_all};
 use selector_read::Kind;

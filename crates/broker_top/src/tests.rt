@@ -1,5 +1,5 @@
 use crate::{INPUT_LIMIT, InputFault, Status, run_command, select_command};
-use acts_core::Bytes;
+use byte_lists::Bytes;
 use outside_io::{MemorySink, MemorySource};
 use std::alloc::{AllocError, Global};
 use std::process::Abort;

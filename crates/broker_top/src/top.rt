@@ -10,7 +10,7 @@ use crate::select::select_messages;
 use crate::status::Status;
 use crate::telling::{refuse, refuse_words, tell, tell_no_memory, tell_unread};
 use crate::words::{Asked, is_listed, is_select, read_words};
-use acts_core::NoMemory;
+use byte_lists::NoMemory;
 use outside_io::{Sink, Source};
 use std::alloc::Global;
 

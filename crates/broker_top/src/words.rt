@@ -5,7 +5,7 @@ ghost use Rattle.clap.specs.Simple.{subcommand_rows_of};
 ghost use Rattle.broker_top.specs.Words.{asked, is_operand, selecting, task_of};
 ghost use Rattle.broker_top.specs.CommandLine.{Holds};
 
-use acts_core::NoMemory;
+use byte_lists::NoMemory;
 use clap::error::ErrorKind;
 use clap::{Arg, ArgMatches, Command, Error};
 use std::alloc::Global;

@@ -1,6 +1,6 @@
 -- definitions as contracts see them
 use Rattle.std.specs.Prelude.{ℕ, List, map, flat_map}
-use Rattle.acts_core.specs.declared.queues.Limits.{Limits}
+use Rattle.queue_model.specs.declared.queues.Limits.{Limits}
 use Rattle.defs_read.specs.declared.defs.Defs.{Defs}
 use Rattle.defs_read.specs.declared.defs.QueueDef.{QueueDef}
 use Rattle.defs_read.specs.declared.defs.QueueKind.{QueueKind}

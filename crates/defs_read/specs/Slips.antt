@@ -1,7 +1,7 @@
 -- what a queue knows of a message without reading it
 use Rattle.std.specs.Prelude.{◌≡◌, ℕ, ◌+◌, ◌-◌, ◌/◌, min, List, length, Option, Some, None, IsSomeAnd, slice_get, ◌↔◌}
 use Rattle.std.specs.Int.{bit_at}
-use Rattle.acts_core.specs.declared.rows.Slip.{Slip}
+use Rattle.queue_model.specs.declared.rows.Slip.{Slip}
 use Rattle.message_core.specs.declared.headers.HeaderValue.{HeaderValue}
 use Rattle.message_core.specs.declared.headers.HeaderValue.TheVariants as header
 use Rattle.message_core.specs.Spelling.{Content, content, value_of}

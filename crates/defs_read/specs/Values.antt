@@ -1,9 +1,9 @@
 -- what definitions say that have no cause; each field that is missing has its default
 use Rattle.std.specs.Prelude.{ℕ, ◌+◌, List, [], ◌∷◌, Option, Some, None, option_and_then, unwrap_or, codes, if◌then◌else◌}
 use Rattle.std.specs.Str.{bytes_eq}
-use Rattle.acts_core.specs.declared.queues.Limits.{Limits}
-use Rattle.acts_core.specs.declared.queues.Policy.{Policy}
-use Rattle.acts_core.specs.declared.queues.Policy.TheVariants as policy
+use Rattle.queue_model.specs.declared.queues.Limits.{Limits}
+use Rattle.queue_model.specs.declared.queues.Policy.{Policy}
+use Rattle.queue_model.specs.declared.queues.Policy.TheVariants as policy
 use Rattle.serde_json.specs.Data.{Data, Items, no_items, item}
 use Rattle.fields_read.specs.Json.{json_of}
 use Rattle.fields_read.specs.Forms.{count_items}

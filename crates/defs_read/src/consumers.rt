@@ -13,7 +13,7 @@ use crate::faults::DefsFault;
 use crate::names::read_name;
 use crate::tables::{CONSUMER, REQUIRED_CONSUMER};
 use crate::values::copy_text;
-use acts_core::Bytes;
+use byte_lists::Bytes;
 use fields_read::{Field, check_values, text};
 use indexmap::IndexSet;
 use selector_read::{Selector, SelectorFault, read};

@@ -1,9 +1,10 @@
 //! Definitions, as they were read.
 ghost use Rattle.std.specs.Prelude.{◌≡◌, None};
-ghost use Rattle.acts_core.specs.declared.queues.Policy.TheVariants as policy;
+ghost use Rattle.queue_model.specs.declared.queues.Policy.TheVariants as policy;
 ghost use Rattle.defs_read.specs.Defined.{defined};
 
-use acts_core::{Bytes, Limits, Policy};
+use byte_lists::Bytes;
+use queue_model::{Limits, Policy};
 use selector_read::Selector;
 
 /// The queues of a run, in order of their definition: 1 to 16, with distinct names.

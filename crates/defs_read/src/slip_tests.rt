@@ -1,7 +1,7 @@
 //! Slips: which consumers want a message, and its list and its key in queues of each kind.
 use super::*;
-use acts_core::Slip;
 use message_core::Message;
+use queue_model::Slip;
 use std::alloc::{AllocError, Global};
 use std::process::Abort;
 use std::test::*;

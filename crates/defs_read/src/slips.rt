@@ -7,8 +7,9 @@ ghost use Rattle.defs_read.specs.Defined.{defined};
 ghost use Rattle.defs_read.specs.Slips.{IsMask, IsSlip, Wants, key_of, list_among, list_of, text_in};
 
 use crate::defs::{ConsumerDef, QueueDef, QueueKind};
-use acts_core::{Bytes, NoMemory, Slip};
+use byte_lists::{Bytes, NoMemory};
 use message_core::{HeaderValue, Message};
+use queue_model::Slip;
 use selector_eval::{Truth, truth};
 use std::alloc::Global;
 

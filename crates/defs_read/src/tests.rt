@@ -1,5 +1,6 @@
 use super::*;
-use acts_core::{Bytes, Limits, Policy};
+use byte_lists::Bytes;
+use queue_model::{Limits, Policy};
 use std::alloc::{AllocError, Global};
 use std::process::Abort;
 use std::test::Fail;

@@ -11,8 +11,9 @@ ghost use Rattle.defs_read.specs.declared.faults.DefsFault.TheVariants.{NoMemory
 use crate::defs::QueueKind;
 use crate::faults::DefsFault;
 use crate::tables::QueueType;
-use acts_core::{Bytes, Limits, Policy};
+use byte_lists::Bytes;
 use fields_read::{Field, number, text};
+use queue_model::{Limits, Policy};
 use serde_json::Value;
 use std::alloc::Global;
 

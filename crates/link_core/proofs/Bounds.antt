@@ -2,18 +2,18 @@
 use Rattle.std.proofs.Common.{◌≡◌, ℕ, ◌+◌, ◌*◌, ◌^◌, ◌<◌, ◌≤◌, Option, Some, None, find, refl, sym, subst, arith}
 use Rattle.std.specs.Prelude.{slice_index}
 use Rattle.std.specs.Option.{unwrap_or}
-use Rattle.acts_core.specs.declared.queues.Queue.{Queue}
-use Rattle.acts_core.specs.declared.queues.Reservation.{Reservation}
-use Rattle.acts_core.specs.declared.rows.RowState.{RowState}
-use Rattle.acts_core.specs.declared.steps.Change.{Change}
-use Rattle.acts_core.specs.declared.steps.Step.{Step}
-use Rattle.acts_core.specs.declared.steps.Step.TheVariants.{State, Reserve, GiveBack}
-use Rattle.acts_core.specs.State.{is_holder, nothing, reserved_by, entries, bytes}
-use Rattle.acts_core.specs.Table.{CanGive, most_bytes}
-use Rattle.acts_core.proofs.Depths.{depth_giving, depth_low}
-use Rattle.acts_core.proofs.Performing.{more_fits}
-use Rattle.acts_core.proofs.SoundSteps.{row_fits}
-use Rattle.link_core.specs.Layout.{entry_worth}
+use Rattle.queue_model.specs.declared.queues.Queue.{Queue}
+use Rattle.queue_model.specs.declared.queues.Reservation.{Reservation}
+use Rattle.queue_model.specs.declared.rows.RowState.{RowState}
+use Rattle.queue_model.specs.declared.steps.Change.{Change}
+use Rattle.queue_model.specs.declared.steps.Step.{Step}
+use Rattle.queue_model.specs.declared.steps.Step.TheVariants.{State, Reserve, GiveBack}
+use Rattle.queue_model.specs.State.{is_holder, nothing, reserved_by, entries, bytes}
+use Rattle.queue_model.specs.Table.{CanGive, most_bytes}
+use Rattle.queue_model.proofs.Depths.{depth_giving, depth_low}
+use Rattle.queue_model.proofs.Performing.{more_fits}
+use Rattle.queue_model.proofs.SoundSteps.{row_fits}
+use Rattle.queue_model.specs.Packing.{entry_worth}
 use Rattle.link_core.specs.Stands.{Stands}
 use Rattle.link_core.specs.Steps.{Fits, size_in}
 use Rattle.link_core.specs.Table.{Table, IsLinked}

@@ -3,12 +3,12 @@ use Rattle.std.proofs.Common.{◌≡◌, ◌≢◌, ◌⊎◌, inl, inr, ℕ, su
 use Rattle.std.specs.Prelude.{slice_index, slice_set}
 use Rattle.std.specs.List.{position_or_len, AllByRecursion}
 use Rattle.std.proofs.lemmas.Bool.{cases_Bool, cond-false, eqb-false}
-use Rattle.acts_core.specs.declared.rows.Row.{Row}
-use Rattle.acts_core.specs.declared.rows.RowState.TheVariants.{Deleted}
-use Rattle.acts_core.specs.Keyed.{Apart}
-use Rattle.acts_core.specs.Sound.{same_number}
-use Rattle.acts_core.specs.State.{is_row, is_of_list}
-use Rattle.acts_core.proofs.KeyedLemmas.{find-here, find-past, find_none-head, find_none-tail, all-filter, position-here, position-past}
+use Rattle.queue_model.specs.declared.rows.Row.{Row}
+use Rattle.queue_model.specs.declared.rows.RowState.TheVariants.{Deleted}
+use Rattle.queue_model.specs.Keyed.{Apart}
+use Rattle.queue_model.specs.Sound.{same_number}
+use Rattle.queue_model.specs.State.{is_row, is_of_list}
+use Rattle.queue_model.proofs.KeyedLemmas.{find-here, find-past, find_none-head, find_none-tail, all-filter, position-here, position-past}
 use Rattle.link_core.specs.Laws.{LinkNames}
 use Rattle.link_core.specs.Stands.{Points, Chain}
 use Rattle.link_core.proofs.Frames.{set_here, set_else}

@@ -1,24 +1,24 @@
 -- changes of a row's state
 use Rattle.std.proofs.Common.{◌≡◌, ◌≢◌, inl, inr, ℕ, suc, ◌+◌, ◌*◌, ◌<◌, Option, Some, None, IsSome, List, length, refl, sym, ap, ap₂, ◌∙◌, subst, ⊎_elim, arith}
 use Rattle.std.specs.Prelude.{slice_index, slice_set}
-use Rattle.acts_core.specs.declared.deeds.Act.TheVariants as acts
-use Rattle.acts_core.specs.declared.queues.Queue.{Queue}
-use Rattle.acts_core.specs.declared.queues.Reservation.{Reservation}
-use Rattle.acts_core.specs.declared.rows.Row.{Row}
-use Rattle.acts_core.specs.declared.rows.RowState.{RowState}
-use Rattle.acts_core.specs.declared.rows.RowState.TheVariants.{Available, Locked, Unlocked, Dequeued, Deleted}
-use Rattle.acts_core.specs.declared.rows.Slip.{Slip}
-use Rattle.acts_core.specs.declared.steps.Change.{Change}
-use Rattle.acts_core.specs.declared.steps.Change.TheVariants.{Acq, Lock, Unlock, Steal, Rel, Deq, Del}
-use Rattle.acts_core.specs.declared.steps.Step.TheVariants.{State}
-use Rattle.acts_core.specs.Laws.{SameGoods}
-use Rattle.acts_core.specs.Sound.{Sound}
-use Rattle.acts_core.specs.State.{row_at, IsIn, place_at, size_at, reserved_by}
-use Rattle.acts_core.specs.Table.{Can, in_state, left_in, changed, acted, with_more}
-use Rattle.acts_core.proofs.Depths.{SameDepth, depth_kept, size_found}
-use Rattle.acts_core.proofs.Owns.{own_dequeue_reserves}
-use Rattle.acts_core.proofs.SoundSteps.{sound_step}
-use Rattle.link_core.specs.Layout.{pack_state, pack_depth}
+use Rattle.queue_model.specs.declared.deeds.Act.TheVariants as acts
+use Rattle.queue_model.specs.declared.queues.Queue.{Queue}
+use Rattle.queue_model.specs.declared.queues.Reservation.{Reservation}
+use Rattle.queue_model.specs.declared.rows.Row.{Row}
+use Rattle.queue_model.specs.declared.rows.RowState.{RowState}
+use Rattle.queue_model.specs.declared.rows.RowState.TheVariants.{Available, Locked, Unlocked, Dequeued, Deleted}
+use Rattle.queue_model.specs.declared.rows.Slip.{Slip}
+use Rattle.queue_model.specs.declared.steps.Change.{Change}
+use Rattle.queue_model.specs.declared.steps.Change.TheVariants.{Acq, Lock, Unlock, Steal, Rel, Deq, Del}
+use Rattle.queue_model.specs.declared.steps.Step.TheVariants.{State}
+use Rattle.queue_model.specs.Laws.{SameGoods}
+use Rattle.queue_model.specs.Sound.{Sound}
+use Rattle.queue_model.specs.State.{row_at, IsIn, place_at, size_at, reserved_by}
+use Rattle.queue_model.specs.Table.{Can, in_state, left_in, changed, acted, with_more}
+use Rattle.queue_model.proofs.Depths.{SameDepth, depth_kept, size_found}
+use Rattle.queue_model.proofs.Owns.{own_dequeue_reserves}
+use Rattle.queue_model.proofs.SoundSteps.{sound_step}
+use Rattle.queue_model.specs.Packing.{pack_state, pack_depth}
 use Rattle.link_core.specs.Stands.{States, Drafts, IsDrafted, Links, StandsIn, Tails, Marks, Draws, Stands}
 use Rattle.link_core.specs.Steps.{FitsState, goes_to, reserved_after, act_with, changed_by, size_in}
 use Rattle.link_core.specs.Table.{Table, but, IsLinked}

@@ -2,11 +2,11 @@
 use Rattle.std.proofs.Common.{◌≡◌, ◌≢◌, ℕ, ◌+◌, ◌*◌, ◌<◌, ◌≤◌, Option, Some, None, IsSome, List, length, refl, sym, ap, ◌∙◌, subst, ⊎_elim, arith}
 use Rattle.std.specs.Prelude.{slice_index, slice_set}
 use Rattle.std.proofs.lemmas.Bool.{cases_eq}
-use Rattle.acts_core.specs.declared.queues.Queue.{Queue}
-use Rattle.acts_core.specs.declared.rows.Row.{Row}
-use Rattle.acts_core.specs.declared.steps.DraftWord.{DraftWord}
-use Rattle.acts_core.specs.declared.steps.Step.TheVariants.{Draw, Draft}
-use Rattle.acts_core.specs.State.{row_at}
+use Rattle.queue_model.specs.declared.queues.Queue.{Queue}
+use Rattle.queue_model.specs.declared.rows.Row.{Row}
+use Rattle.queue_model.specs.declared.steps.DraftWord.{DraftWord}
+use Rattle.queue_model.specs.declared.steps.Step.TheVariants.{Draw, Draft}
+use Rattle.queue_model.specs.State.{row_at}
 use Rattle.link_core.specs.Layout.{draft_of}
 use Rattle.link_core.specs.Stands.{Draws, Stands}
 use Rattle.link_core.specs.Steps.{IsDrawnBy, changed_by}

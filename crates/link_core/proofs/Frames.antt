@@ -4,12 +4,12 @@ use Rattle.std.specs.Prelude.{slice_index, slice_set}
 use Rattle.std.specs.List.{AllByRecursion}
 use Rattle.std.proofs.lemmas.Bool.{cases_eq, cond-true, cond-false}
 use Rattle.std.proofs.lemmas.List.{length-set}
-use Rattle.acts_core.specs.declared.queues.Queue.{Queue}
-use Rattle.acts_core.specs.declared.queues.Reservation.{Reservation}
-use Rattle.acts_core.specs.declared.rows.Row.{Row}
-use Rattle.acts_core.specs.declared.steps.DraftWord.{DraftWord}
-use Rattle.acts_core.specs.declared.steps.DraftWord.TheVariants as drafts
-use Rattle.acts_core.specs.State.{row_at, rows_of, place_at}
+use Rattle.queue_model.specs.declared.queues.Queue.{Queue}
+use Rattle.queue_model.specs.declared.queues.Reservation.{Reservation}
+use Rattle.queue_model.specs.declared.rows.Row.{Row}
+use Rattle.queue_model.specs.declared.steps.DraftWord.{DraftWord}
+use Rattle.queue_model.specs.declared.steps.DraftWord.TheVariants as drafts
+use Rattle.queue_model.specs.State.{row_at, rows_of, place_at}
 use Rattle.link_core.specs.Layout.{draft_of}
 use Rattle.link_core.specs.Stands.{IsShaped, States, Drafts, Chain, Links, StandsIn, Tails, Marks, Bells, IsDepth, Draws}
 use Rattle.link_core.specs.Table.{Table, but}

@@ -2,11 +2,11 @@
 use Rattle.std.proofs.Common.{◌≡◌, ◌≢◌, ◌⊎◌, inr, ℕ, suc, ◌+◌, ◌<◌, List, length, sym, ap, ◌∙◌, subst, ⊎_elim, arith}
 use Rattle.std.specs.Prelude.{slice_index, slice_set}
 use Rattle.std.proofs.lemmas.Bool.{cases_eq}
-use Rattle.acts_core.specs.declared.queues.Queue.{Queue}
-use Rattle.acts_core.specs.declared.steps.Node.{Node}
-use Rattle.acts_core.specs.declared.steps.Node.TheVariants as nodes
-use Rattle.acts_core.specs.declared.steps.Step.TheVariants.{HelpTail}
-use Rattle.acts_core.specs.State.{row_at}
+use Rattle.queue_model.specs.declared.queues.Queue.{Queue}
+use Rattle.queue_model.specs.declared.steps.Node.{Node}
+use Rattle.queue_model.specs.declared.steps.Node.TheVariants as nodes
+use Rattle.queue_model.specs.declared.steps.Step.TheVariants.{HelpTail}
+use Rattle.queue_model.specs.State.{row_at}
 use Rattle.link_core.specs.Stands.{StandsIn, Tails, Stands}
 use Rattle.link_core.specs.Steps.{FitsHelp, FitsHelpTo, changed_by}
 use Rattle.link_core.specs.Table.{Table}

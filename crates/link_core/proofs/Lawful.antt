@@ -1,15 +1,15 @@
 -- each step that fits is its deed, and so is each list of steps
 use Rattle.std.proofs.Common.{replicate, ◌≡◌, ℕ, Result, Ok, Err, Bool, true, false, cond, List, [], ◌∷◌, sym, subst, ⊎_elim, eqb-true}
 use Rattle.std.proofs.lemmas.Bool.{cases_Bool, ltb-true}
-use Rattle.acts_core.specs.declared.queues.Queue.{Queue}
-use Rattle.acts_core.specs.declared.steps.Step.{Step}
-use Rattle.acts_core.specs.declared.steps.Step.TheVariants.{Draw, Draft, Link, HelpTail, Load, State, Reserve, GiveBack}
-use Rattle.acts_core.specs.History.{after, Legal, deeds_of}
-use Rattle.acts_core.specs.State.{empty}
-use Rattle.acts_core.proofs.Histories.{after-append, legal-append}
+use Rattle.queue_model.specs.declared.queues.Queue.{Queue}
+use Rattle.queue_model.specs.declared.steps.Step.{Step}
+use Rattle.queue_model.specs.declared.steps.Step.TheVariants.{Draw, Draft, Link, HelpTail, Load, State, Reserve, GiveBack}
+use Rattle.queue_model.specs.History.{after, Legal, deeds_of}
+use Rattle.queue_model.specs.State.{empty}
+use Rattle.queue_model.proofs.Histories.{after-append, legal-append}
 use Rattle.link_core.specs.Fresh.{fresh}
 use Rattle.link_core.specs.Laws.{Law}
-use Rattle.link_core.specs.Layout.{pack_state}
+use Rattle.queue_model.specs.Packing.{pack_state}
 use Rattle.link_core.specs.Stands.{Stands}
 use Rattle.link_core.specs.Steps.{Fits, size_in, shown, hits, changed_by, acts_in, moved, deed, AllFit, all_moved, all_deeds}
 use Rattle.link_core.specs.Advanced.{Advances}

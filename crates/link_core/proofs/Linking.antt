@@ -4,24 +4,25 @@ use Rattle.std.specs.Prelude.{slice_index, slice_set}
 use Rattle.std.specs.List.{position_or_len, AllByRecursion}
 use Rattle.std.proofs.lemmas.Bool.{cases_eq, cond-true, cond-false}
 use Rattle.std.proofs.lemmas.List.Elements.{filter-append}
-use Rattle.acts_core.specs.declared.queues.Queue.{Queue}
-use Rattle.acts_core.specs.declared.queues.Reservation.{Reservation}
-use Rattle.acts_core.specs.declared.rows.Row.{Row}
-use Rattle.acts_core.specs.declared.rows.RowState.TheVariants.{Available}
-use Rattle.acts_core.specs.declared.steps.DraftWord.{DraftWord}
-use Rattle.acts_core.specs.declared.steps.DraftWord.TheVariants as drafts
-use Rattle.acts_core.specs.declared.steps.Node.{Node}
-use Rattle.acts_core.specs.declared.steps.Node.TheVariants as nodes
-use Rattle.acts_core.specs.declared.steps.Step.TheVariants.{Link}
-use Rattle.acts_core.specs.State.{is_row, row_at, is_of_list, rows_of, list_at, place_at}
-use Rattle.acts_core.specs.Table.{CanGive, Can, acted, with_less}
-use Rattle.acts_core.proofs.Depths.{depth_kept}
-use Rattle.acts_core.proofs.KeyedLemmas.{all-weaker, find-append}
-use Rattle.acts_core.proofs.Owns.{own_giving, own_enqueued, own_enqueued_last}
-use Rattle.acts_core.proofs.RowFacts.{row_push_other}
-use Rattle.acts_core.proofs.SoundSteps.{sound_step, row_fits, list_found}
-use Rattle.acts_core.proofs.Stable.{found_in_list, place_step, new_step}
-use Rattle.link_core.specs.Layout.{link_of, draft_of, pack_state, pack_depth}
+use Rattle.queue_model.specs.declared.queues.Queue.{Queue}
+use Rattle.queue_model.specs.declared.queues.Reservation.{Reservation}
+use Rattle.queue_model.specs.declared.rows.Row.{Row}
+use Rattle.queue_model.specs.declared.rows.RowState.TheVariants.{Available}
+use Rattle.queue_model.specs.declared.steps.DraftWord.{DraftWord}
+use Rattle.queue_model.specs.declared.steps.DraftWord.TheVariants as drafts
+use Rattle.queue_model.specs.declared.steps.Node.{Node}
+use Rattle.queue_model.specs.declared.steps.Node.TheVariants as nodes
+use Rattle.queue_model.specs.declared.steps.Step.TheVariants.{Link}
+use Rattle.queue_model.specs.State.{is_row, row_at, is_of_list, rows_of, list_at, place_at}
+use Rattle.queue_model.specs.Table.{CanGive, Can, acted, with_less}
+use Rattle.queue_model.proofs.Depths.{depth_kept}
+use Rattle.queue_model.proofs.KeyedLemmas.{all-weaker, find-append}
+use Rattle.queue_model.proofs.Owns.{own_giving, own_enqueued, own_enqueued_last}
+use Rattle.queue_model.proofs.RowFacts.{row_push_other}
+use Rattle.queue_model.proofs.SoundSteps.{sound_step, row_fits, list_found}
+use Rattle.queue_model.proofs.Stable.{found_in_list, place_step, new_step}
+use Rattle.link_core.specs.Layout.{link_of, draft_of}
+use Rattle.queue_model.specs.Packing.{pack_state, pack_depth}
 use Rattle.link_core.specs.Stands.{States, Drafts, IsDrafted, Chain, Links, StandsIn, Tails, Marks, Draws, Stands}
 use Rattle.link_core.specs.Steps.{FitsLink, enqueue_with, changed_by, slip_in, size_in, mask_in, list_in, place_behind}
 use Rattle.link_core.specs.Table.{Table, but, IsNode, list_of_node}

@@ -3,11 +3,11 @@ use Rattle.std.proofs.Common.{◌≡◌, inl, ℕ, zero, suc, ◌+◌, ◌-◌, 
 use Rattle.std.specs.Prelude.{slice_index}
 use Rattle.std.proofs.lemmas.Bool.{cases_lt}
 use Rattle.std.proofs.lemmas.List.{get_or_past, length-replicate, get_or-replicate, get_or_append_left, get_or-append_right}
-use Rattle.acts_core.specs.Sound.{Sound}
-use Rattle.acts_core.specs.State.{empty}
-use Rattle.acts_core.proofs.SoundSteps.{sound_opening}
+use Rattle.queue_model.specs.Sound.{Sound}
+use Rattle.queue_model.specs.State.{empty}
+use Rattle.queue_model.proofs.SoundSteps.{sound_opening}
 use Rattle.link_core.specs.Fresh.{blank_rows, fresh_front, fresh_words, fresh}
-use Rattle.link_core.specs.Layout.{no_bell}
+use Rattle.queue_model.specs.Packing.{no_bell}
 use Rattle.link_core.specs.Stands.{Stands}
 use Rattle.link_core.specs.declared.store.Store.{Store}
 use Rattle.link_core.specs.Kept.{IsLong, IsKept, table_in}

@@ -1,8 +1,8 @@
 -- what is packed can be told again
 use Rattle.std.proofs.Common.{◌≡◌, ℕ, refl, ap, arith}
-use Rattle.acts_core.specs.declared.rows.RowState.{RowState}
-use Rattle.acts_core.specs.declared.rows.RowState.TheVariants.{Available, Locked, Unlocked, Dequeued, Deleted}
-use Rattle.link_core.specs.Layout.{pack_state}
+use Rattle.queue_model.specs.declared.rows.RowState.{RowState}
+use Rattle.queue_model.specs.declared.rows.RowState.TheVariants.{Available, Locked, Unlocked, Dequeued, Deleted}
+use Rattle.queue_model.specs.Packing.{pack_state}
 
 -- a word packs one state
 pub pack_same : (s t : RowState) → pack_state s ≡ pack_state t → s ≡ t

@@ -2,19 +2,19 @@
 use Rattle.std.proofs.Common.{◌≡◌, ◌≢◌, ℕ, ◌+◌, ◌-◌, ◌*◌, ◌/◌, ◌<◌, ◌≤◌, List, sym, ap, ◌∙◌, subst, ⊎_elim, arith}
 use Rattle.std.specs.Prelude.{slice_index, slice_set}
 use Rattle.std.proofs.lemmas.Bool.{cases_eq}
-use Rattle.acts_core.specs.declared.deeds.Act.{Act}
-use Rattle.acts_core.specs.declared.deeds.Act.TheVariants as acts
-use Rattle.acts_core.specs.declared.queues.Queue.{Queue}
-use Rattle.acts_core.specs.declared.queues.Reservation.{Reservation}
-use Rattle.acts_core.specs.declared.steps.Step.TheVariants.{Reserve, GiveBack}
-use Rattle.acts_core.specs.Sound.{Sound}
-use Rattle.acts_core.specs.State.{reserved_by, entries, bytes}
-use Rattle.acts_core.specs.Table.{CanGive, Can, acted, most_bytes, most_entries, with_more, with_less}
-use Rattle.acts_core.proofs.Depths.{depth_low, depth_reserving, depth_giving}
-use Rattle.acts_core.proofs.Owns.{own_reserving, own_giving}
-use Rattle.acts_core.proofs.SoundSteps.{sound_step}
-use Rattle.acts_core.proofs.Stable.{reserved_step}
-use Rattle.link_core.specs.Layout.{entry_worth, pack_depth}
+use Rattle.queue_model.specs.declared.deeds.Act.{Act}
+use Rattle.queue_model.specs.declared.deeds.Act.TheVariants as acts
+use Rattle.queue_model.specs.declared.queues.Queue.{Queue}
+use Rattle.queue_model.specs.declared.queues.Reservation.{Reservation}
+use Rattle.queue_model.specs.declared.steps.Step.TheVariants.{Reserve, GiveBack}
+use Rattle.queue_model.specs.Sound.{Sound}
+use Rattle.queue_model.specs.State.{reserved_by, entries, bytes}
+use Rattle.queue_model.specs.Table.{CanGive, Can, acted, most_bytes, most_entries, with_more, with_less}
+use Rattle.queue_model.proofs.Depths.{depth_low, depth_reserving, depth_giving}
+use Rattle.queue_model.proofs.Owns.{own_reserving, own_giving}
+use Rattle.queue_model.proofs.SoundSteps.{sound_step}
+use Rattle.queue_model.proofs.Stable.{reserved_step}
+use Rattle.queue_model.specs.Packing.{entry_worth, pack_depth}
 use Rattle.link_core.specs.Stands.{IsDepth, Stands}
 use Rattle.link_core.specs.Steps.{changed_by}
 use Rattle.link_core.specs.Table.{Table, but}

@@ -3,17 +3,17 @@ use Rattle.std.proofs.Common.{◌≡◌, ◌≢◌, ◌⊎◌, inl, inr, ℕ, su
 use Rattle.std.specs.Prelude.{slice_index}
 use Rattle.std.specs.List.{position_or_len}
 use Rattle.std.proofs.lemmas.Bool.{cases_eq, cases_Bool}
-use Rattle.acts_core.specs.declared.queues.Queue.{Queue}
-use Rattle.acts_core.specs.declared.rows.Row.{Row}
-use Rattle.acts_core.specs.declared.rows.RowState.TheVariants.{Deleted}
-use Rattle.acts_core.specs.declared.rows.Slip.{Slip}
-use Rattle.acts_core.specs.Keyed.{alter}
-use Rattle.acts_core.specs.Laws.{SameGoods}
-use Rattle.acts_core.specs.State.{is_row, row_at, is_of_list, rows_of, list_at, place_at}
-use Rattle.acts_core.specs.Table.{changed}
-use Rattle.acts_core.proofs.KeyedLemmas.{find-here, find-past, alter-here, alter-past, position-filter_alter}
-use Rattle.acts_core.proofs.RowFacts.{row_number, row_here, row_elsewhere}
-use Rattle.acts_core.proofs.SoundSteps.{list_found}
+use Rattle.queue_model.specs.declared.queues.Queue.{Queue}
+use Rattle.queue_model.specs.declared.rows.Row.{Row}
+use Rattle.queue_model.specs.declared.rows.RowState.TheVariants.{Deleted}
+use Rattle.queue_model.specs.declared.rows.Slip.{Slip}
+use Rattle.queue_model.specs.Keyed.{alter}
+use Rattle.queue_model.specs.Laws.{SameGoods}
+use Rattle.queue_model.specs.State.{is_row, row_at, is_of_list, rows_of, list_at, place_at}
+use Rattle.queue_model.specs.Table.{changed}
+use Rattle.queue_model.proofs.KeyedLemmas.{find-here, find-past, alter-here, alter-past, position-filter_alter}
+use Rattle.queue_model.proofs.RowFacts.{row_number, row_here, row_elsewhere}
+use Rattle.queue_model.proofs.SoundSteps.{list_found}
 use Rattle.link_core.specs.Stands.{Points, Chain}
 
 -- Rows

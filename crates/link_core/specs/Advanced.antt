@@ -1,6 +1,6 @@
 -- what a step on the words answers, and what it leaves
 use Rattle.std.specs.Prelude.{◌≡◌, ℕ, ◌<◌, Result, Ok, Err}
-use Rattle.acts_core.specs.declared.steps.Step.{Step}
+use Rattle.queue_model.specs.declared.steps.Step.{Step}
 use Rattle.link_core.specs.declared.stepping.Unfit.{Unfit}
 use Rattle.link_core.specs.Steps.{Fits, shown, moved}
 use Rattle.link_core.specs.Table.{Table}

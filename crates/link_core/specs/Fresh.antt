@@ -1,7 +1,7 @@
 -- the words of a table in which nothing has happened
 use Rattle.std.specs.Prelude.{ℕ, suc, zero, None, List, [], ◌∷◌, ◌++◌, replicate}
-use Rattle.acts_core.specs.State.{nothing}
-use Rattle.link_core.specs.Layout.{no_bell}
+use Rattle.queue_model.specs.State.{nothing}
+use Rattle.queue_model.specs.Packing.{no_bell}
 use Rattle.link_core.specs.Table.{Table}
 
 -- the words of so many rows that nobody drew: the state word of each is that of an available row

@@ -1,12 +1,13 @@
 -- Only defined: no contract and no proof cites these. They are the further steps of the table that is to come:
 -- unlinks, and steps on bells, on marks and on counts.
 use Rattle.std.specs.Prelude.{◌≡◌, ℕ, ◌+◌, ◌*◌, ◌<◌, ◌==◌, nat_lt, if◌then◌else◌, suc, List, [], ◌∷◌, slice_index, slice_set}
-use Rattle.acts_core.specs.declared.deeds.Act.TheVariants as acts
-use Rattle.acts_core.specs.declared.deeds.Deed.{Deed}
-use Rattle.acts_core.specs.declared.rows.RowState.TheVariants.{Deleted}
-use Rattle.acts_core.specs.declared.steps.Node.{Node}
-use Rattle.acts_core.specs.History.{deeds_of}
-use Rattle.link_core.specs.Layout.{link_of, mark_of, count_of, bell_of, state_of, pack_state, no_bell}
+use Rattle.queue_model.specs.declared.deeds.Act.TheVariants as acts
+use Rattle.queue_model.specs.declared.deeds.Deed.{Deed}
+use Rattle.queue_model.specs.declared.rows.RowState.TheVariants.{Deleted}
+use Rattle.queue_model.specs.declared.steps.Node.{Node}
+use Rattle.queue_model.specs.History.{deeds_of}
+use Rattle.link_core.specs.Layout.{link_of, mark_of, count_of, bell_of, state_of}
+use Rattle.queue_model.specs.Packing.{pack_state, no_bell}
 use Rattle.link_core.specs.Steps.{list_in, place_in}
 use Rattle.link_core.specs.Table.{Table, IsLinked, IsNode}
 

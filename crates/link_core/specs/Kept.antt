@@ -1,8 +1,8 @@
 -- the vectors that keep a table of words
 use Rattle.std.specs.Prelude.{◌≡◌, ℕ, ◌<◌, Option, None, List, length, slice_index, slice_index_or}
-use Rattle.acts_core.specs.declared.queues.Queue.{Queue}
-use Rattle.acts_core.specs.declared.steps.Step.{Step}
-use Rattle.acts_core.specs.declared.steps.Step.TheVariants.{Draw, Link}
+use Rattle.queue_model.specs.declared.queues.Queue.{Queue}
+use Rattle.queue_model.specs.declared.steps.Step.{Step}
+use Rattle.queue_model.specs.declared.steps.Step.TheVariants.{Draw, Link}
 use Rattle.link_core.specs.declared.store.Store.{Store}
 use Rattle.link_core.specs.Stands.{Stands}
 use Rattle.link_core.specs.Table.{Table}

@@ -1,12 +1,12 @@
 -- the law of lists of steps, and what it is made of; each is proved as the contract of a function in src/laws.rt
 use Rattle.std.specs.Prelude.{◌≡◌, ◌⊎◌, ℕ, suc, ◌≤◌, List, [], ◌∷◌, ◌++◌}
 use Rattle.std.specs.List.{AllByRecursion}
-use Rattle.acts_core.specs.declared.queues.Queue.{Queue}
-use Rattle.acts_core.specs.declared.rows.Row.{Row}
-use Rattle.acts_core.specs.declared.rows.RowState.TheVariants.{Deleted}
-use Rattle.acts_core.specs.declared.steps.Step.{Step}
-use Rattle.acts_core.specs.History.{after, Legal}
-use Rattle.acts_core.specs.State.{empty}
+use Rattle.queue_model.specs.declared.queues.Queue.{Queue}
+use Rattle.queue_model.specs.declared.rows.Row.{Row}
+use Rattle.queue_model.specs.declared.rows.RowState.TheVariants.{Deleted}
+use Rattle.queue_model.specs.declared.steps.Step.{Step}
+use Rattle.queue_model.specs.History.{after, Legal}
+use Rattle.queue_model.specs.State.{empty}
 use Rattle.link_core.specs.Fresh.{fresh}
 use Rattle.link_core.specs.Stands.{Points, Stands}
 use Rattle.link_core.specs.Steps.{Fits, moved, deed, AllFit, all_moved, all_deeds}

@@ -1,14 +1,15 @@
 -- when the words of a table stand for the state of a queue
 use Rattle.std.specs.Prelude.{◌≡◌, ◌≢◌, ◌⊎◌, ℕ, ◌+◌, ◌*◌, ◌<◌, ◌≤◌, suc, Option, Some, None, IsSome, List, [], ◌∷◌, length, slice_index}
-use Rattle.acts_core.specs.declared.queues.Queue.{Queue}
-use Rattle.acts_core.specs.declared.rows.Row.{Row}
-use Rattle.acts_core.specs.declared.rows.RowState.TheVariants.{Deleted}
-use Rattle.acts_core.specs.declared.rows.Slip.{Slip}
-use Rattle.acts_core.specs.declared.steps.DraftWord.TheVariants as drafts
-use Rattle.acts_core.specs.declared.steps.Node.TheVariants as nodes
-use Rattle.acts_core.specs.Sound.{Sound}
-use Rattle.acts_core.specs.State.{row_at, rows_of, place_at, bell_at, reserved_by, entries, bytes}
-use Rattle.link_core.specs.Layout.{link_of, tail_of, mark_of, bell_of, state_of, draft_of, pack_state, pack_bell, pack_depth}
+use Rattle.queue_model.specs.declared.queues.Queue.{Queue}
+use Rattle.queue_model.specs.declared.rows.Row.{Row}
+use Rattle.queue_model.specs.declared.rows.RowState.TheVariants.{Deleted}
+use Rattle.queue_model.specs.declared.rows.Slip.{Slip}
+use Rattle.queue_model.specs.declared.steps.DraftWord.TheVariants as drafts
+use Rattle.queue_model.specs.declared.steps.Node.TheVariants as nodes
+use Rattle.queue_model.specs.Sound.{Sound}
+use Rattle.queue_model.specs.State.{row_at, rows_of, place_at, bell_at, reserved_by, entries, bytes}
+use Rattle.link_core.specs.Layout.{link_of, tail_of, mark_of, bell_of, state_of, draft_of}
+use Rattle.queue_model.specs.Packing.{pack_state, pack_bell, pack_depth}
 use Rattle.link_core.specs.Table.{Table}
 
 -- The table has its words, and the queue's lists and consumers.

@@ -1,24 +1,25 @@
 -- steps on words: when a step fits, what it shows, which act it is, and what it leaves
 use Rattle.std.specs.Prelude.{◌≡◌, ℕ, ◌+◌, ◌-◌, ◌/◌, ◌^◌, ◌<◌, ◌≤◌, Bool, true, false, ◌==◌, nat_lt, if◌then◌else◌, suc, Option, Some, None, List, [], ◌∷◌, ◌++◌, slice_index, slice_set, replicate}
-use Rattle.acts_core.specs.declared.deeds.Act.{Act}
-use Rattle.acts_core.specs.declared.deeds.Act.TheVariants as acts
-use Rattle.acts_core.specs.declared.deeds.Deed.{Deed}
-use Rattle.acts_core.specs.declared.queues.Reservation.{Reservation}
-use Rattle.acts_core.specs.declared.rows.RowState.{RowState}
-use Rattle.acts_core.specs.declared.rows.RowState.TheVariants.{Available, Locked, Unlocked, Dequeued, Deleted}
-use Rattle.acts_core.specs.declared.rows.Slip.{Slip}
-use Rattle.acts_core.specs.declared.steps.Change.{Change}
-use Rattle.acts_core.specs.declared.steps.Change.TheVariants.{Acq, Lock, Unlock, Steal, Rel, Deq, Del}
-use Rattle.acts_core.specs.declared.steps.DraftWord.TheVariants as drafts
-use Rattle.acts_core.specs.declared.steps.Node.{Node}
-use Rattle.acts_core.specs.declared.steps.Node.TheVariants as nodes
-use Rattle.acts_core.specs.declared.steps.Step.{Step}
-use Rattle.acts_core.specs.declared.steps.Step.TheVariants.{Draw, Draft, Link, HelpTail, Load, State, Reserve, GiveBack}
-use Rattle.acts_core.specs.declared.steps.WordName.{WordName}
-use Rattle.acts_core.specs.declared.steps.WordName.TheVariants as names
-use Rattle.acts_core.specs.History.{deeds_of}
-use Rattle.acts_core.specs.Table.{CanGive, most_bytes, most_entries, with_more, with_less}
-use Rattle.link_core.specs.Layout.{link_of, tail_of, state_of, draft_of, place_of_word, pack_state, pack_node, entry_worth}
+use Rattle.queue_model.specs.declared.deeds.Act.{Act}
+use Rattle.queue_model.specs.declared.deeds.Act.TheVariants as acts
+use Rattle.queue_model.specs.declared.deeds.Deed.{Deed}
+use Rattle.queue_model.specs.declared.queues.Reservation.{Reservation}
+use Rattle.queue_model.specs.declared.rows.RowState.{RowState}
+use Rattle.queue_model.specs.declared.rows.RowState.TheVariants.{Available, Locked, Unlocked, Dequeued, Deleted}
+use Rattle.queue_model.specs.declared.rows.Slip.{Slip}
+use Rattle.queue_model.specs.declared.steps.Change.{Change}
+use Rattle.queue_model.specs.declared.steps.Change.TheVariants.{Acq, Lock, Unlock, Steal, Rel, Deq, Del}
+use Rattle.queue_model.specs.declared.steps.DraftWord.TheVariants as drafts
+use Rattle.queue_model.specs.declared.steps.Node.{Node}
+use Rattle.queue_model.specs.declared.steps.Node.TheVariants as nodes
+use Rattle.queue_model.specs.declared.steps.Step.{Step}
+use Rattle.queue_model.specs.declared.steps.Step.TheVariants.{Draw, Draft, Link, HelpTail, Load, State, Reserve, GiveBack}
+use Rattle.queue_model.specs.declared.steps.WordName.{WordName}
+use Rattle.queue_model.specs.declared.steps.WordName.TheVariants as names
+use Rattle.queue_model.specs.History.{deeds_of}
+use Rattle.queue_model.specs.Table.{CanGive, most_bytes, most_entries, with_more, with_less}
+use Rattle.link_core.specs.Layout.{link_of, tail_of, state_of, draft_of, place_of_word}
+use Rattle.queue_model.specs.Packing.{pack_state, pack_node, entry_worth}
 use Rattle.link_core.specs.Table.{Table, top, but, IsLinked, IsNode, list_of_node}
 
 -- Words by name

@@ -1,9 +1,9 @@
 -- what contracts see of a table of words
 use Rattle.std.specs.Prelude.{◌≡◌, ℕ, ◌<◌, ◌==◌, if◌then◌else◌, Option, None, List, slice_index}
-use Rattle.acts_core.specs.declared.queues.Reservation.{Reservation}
-use Rattle.acts_core.specs.declared.steps.DraftWord.TheVariants as drafts
-use Rattle.acts_core.specs.declared.steps.Node.{Node}
-use Rattle.acts_core.specs.declared.steps.Node.TheVariants as nodes
+use Rattle.queue_model.specs.declared.queues.Reservation.{Reservation}
+use Rattle.queue_model.specs.declared.steps.DraftWord.TheVariants as drafts
+use Rattle.queue_model.specs.declared.steps.Node.{Node}
+use Rattle.queue_model.specs.declared.steps.Node.TheVariants as nodes
 use Rattle.link_core.specs.Layout.{draft_of}
 
 -- The words, and beside them who drew each row that is not linked, and what each caller has reserved.

@@ -1,16 +1,16 @@
 //! Whether a step fits the words.
 ghost use Rattle.std.specs.Prelude.{◌≡◌, ◌/◌, ◌<◌, ◌≤◌, ◌^◌, ◌↔◌, ℕ, IsTrue, length, slice_index};
-ghost use Rattle.acts_core.specs.Table.{most_entries};
+ghost use Rattle.queue_model.specs.Table.{most_entries};
 ghost use Rattle.link_core.specs.Kept.{IsKept, table_in};
-ghost use Rattle.link_core.specs.Layout.{draft_of, entry_worth};
+ghost use Rattle.link_core.specs.Layout.{draft_of};
+ghost use Rattle.queue_model.specs.Packing.{entry_worth};
 ghost use Rattle.link_core.specs.Steps.{Fits, FitsHelp, FitsHelpTo, FitsBehind, FitsLink, FitsState, GoesFrom, HasWord, IsBehind, IsDrawnBy, IsPackable, place_behind, place_in};
 ghost use Rattle.link_core.specs.Table.{IsLinked, IsNode, list_of_node};
 
 use crate::places::{ENTRY_WORTH, draft_place};
 use crate::store::Store;
-use acts_core::{
-    Change, DraftWord, MOST_BYTES, MOST_ENTRIES, Node, RowState, Step, WordName, fits_mask,
-};
+use byte_lists::MOST_BYTES;
+use queue_model::{Change, DraftWord, MOST_ENTRIES, Node, RowState, Step, WordName, fits_mask};
 
 /// Whether a change goes on from this state, for this caller.
 fn goes_from(caller: u64, change: Change, from: RowState) -> bool

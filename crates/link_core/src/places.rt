@@ -1,9 +1,10 @@
 //! Where words stand among all words, and how what they stand for is packed.
 ghost use Rattle.std.specs.Prelude.{◌≡◌, ◌<◌, ◌^◌, ℕ};
-ghost use Rattle.link_core.specs.Layout.{draft_of, link_of, pack_node, pack_state, place_of_word};
+ghost use Rattle.link_core.specs.Layout.{draft_of, link_of, place_of_word};
+ghost use Rattle.queue_model.specs.Packing.{pack_node, pack_state};
 ghost use Rattle.link_core.specs.Steps.{place_of_step};
 
-use acts_core::{DraftWord, Node, RowState, Step, WordName};
+use queue_model::{DraftWord, Node, RowState, Step, WordName};
 
 /// The worth of an entry in the word of the depth; bytes count one each.
 pub(crate) const ENTRY_WORTH: u64 = 1_099_511_627_776;

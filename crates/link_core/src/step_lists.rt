@@ -1,6 +1,6 @@
 //! Lists of steps, each from a table that is named, with the words that they show.
 use crate::Words;
-use acts_core::{Change, DraftWord, Node, RowState, Step, WordName};
+use queue_model::{Change, DraftWord, Node, RowState, Step, WordName};
 use std::test::Fail;
 
 const TOP: Step = Step::Load {

@@ -5,7 +5,8 @@ ghost use Rattle.link_core.specs.Fresh.{fresh};
 ghost use Rattle.link_core.specs.Kept.{table_of};
 
 use crate::store::Store;
-use acts_core::{NoMemory, Step};
+use byte_lists::NoMemory;
+use queue_model::Step;
 use std::alloc::Global;
 use std::marker::Model;
 use thiserror::Error;

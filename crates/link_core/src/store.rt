@@ -4,12 +4,12 @@ ghost use Rattle.link_core.specs.Advanced.{Advances};
 ghost use Rattle.link_core.specs.Kept.{drawers_of, IsKept, IsLong, SetsBelow, table_in};
 ghost use Rattle.link_core.specs.Steps.{changed_by, drawer_after, Fits, goes_to, hits, reserves_after, shown, size_in, word_after};
 ghost use Rattle.link_core.specs.Table.{IsLinked};
-ghost use Rattle.acts_core.specs.declared.queues.Reservation.{Reservation};
-ghost use Rattle.acts_core.specs.Table.{with_less, with_more};
+ghost use Rattle.queue_model.specs.declared.queues.Reservation.{Reservation};
+ghost use Rattle.queue_model.specs.Table.{with_less, with_more};
 
 use crate::places::{ENTRY_WORTH, node_word, state_word, step_place};
 use crate::stepping::Unfit;
-use acts_core::{Change, DraftWord, Reservation, RowState, Step};
+use queue_model::{Change, DraftWord, Reservation, RowState, Step};
 
 /// The words in their order, the drawer of each row that is not linked, and what each caller has reserved.
 #[derive(Debug, Drop)]

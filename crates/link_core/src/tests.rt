@@ -1,6 +1,6 @@
 //! The worked list of steps, and a few more.
 use crate::{Unfit, Words};
-use acts_core::{Change, DraftWord, Node, RowState, Step, WordName};
+use queue_model::{Change, DraftWord, Node, RowState, Step, WordName};
 use std::test::Fail;
 
 // The step that loads a word.

@@ -1,5 +1,5 @@
 //! The headers of a message.
-use acts_core::Bytes;
+use byte_lists::Bytes;
 
 /// The value of a header.
 #[derive(Debug, Drop)]

@@ -1,4 +1,4 @@
-//! Limits that every message keeps. The limit on its bytes is `MOST_BYTES` of `acts_core`.
+//! Limits that every message keeps. The limit on its bytes is `MOST_BYTES` of `byte_lists`.
 
 /// The greatest priority.
 pub const TOP_PRIORITY: u8 = 9;

@@ -13,7 +13,7 @@ use crate::names::has_double;
 use crate::reading::{Fields, all_fields_of};
 use crate::sizes::{has_long_name, headers_size};
 use crate::writing::put_headers;
-use acts_core::{Buffer, Bytes, MOST_BYTES};
+use byte_lists::{Buffer, Bytes, MOST_BYTES};
 use std::alloc::Global;
 use std::marker::Model;
 

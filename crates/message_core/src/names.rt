@@ -7,7 +7,7 @@ ghost use Rattle.message_core.specs.Names.{Holds, HasDouble, is_among};
 ghost use Rattle.message_core.specs.Spelling.{names};
 
 use crate::headers::Header;
-use acts_core::NoMemory;
+use byte_lists::NoMemory;
 use std::alloc::Global;
 use std::collections::BTreeSet;
 

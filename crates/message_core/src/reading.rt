@@ -11,7 +11,7 @@ use crate::faults::DecodeFault;
 use crate::headers::{Header, HeaderValue};
 use crate::limits::TOP_PRIORITY;
 use crate::names::add_name;
-use acts_core::{Bytes, MOST_BYTES, NoMemory};
+use byte_lists::{Bytes, MOST_BYTES, NoMemory};
 use std::alloc::{AllocFailed, Global};
 use std::collections::BTreeSet;
 use std::str::from_utf8;

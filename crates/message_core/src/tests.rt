@@ -4,7 +4,7 @@ ghost use Rattle.std.specs.Str.{IsUtf8};
 ghost use Rattle.message_core.specs.Spelling.{IsReadable, IsText};
 
 use super::*;
-use acts_core::{Buffer, Bytes};
+use byte_lists::{Buffer, Bytes};
 use std::alloc::Global;
 use std::process::Abort;
 use std::str::from_utf8;

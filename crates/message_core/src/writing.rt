@@ -4,7 +4,7 @@ ghost use Rattle.std.specs.List.{flat_map, All};
 ghost use Rattle.message_core.specs.Spelling.{text_bytes, value_bytes, header_bytes, IsHeader};
 
 use crate::headers::{Header, HeaderValue};
-use acts_core::Buffer;
+use byte_lists::Buffer;
 
 /// Puts a text at the end, behind its length.
 fn put_text(text: &[u8], into: &mut Buffer)

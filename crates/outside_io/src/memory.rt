@@ -5,7 +5,7 @@ ghost use Rattle.outside_io.specs.Counts.{last_count, next_call, IsSpent, IsList
 ghost use Rattle.outside_io.specs.Memory.{left_of, written_of, FailsNext, RefusesNext};
 
 use crate::outside::{Failed, Sink, Source};
-use acts_core::{Bytes, NoMemory};
+use byte_lists::{Bytes, NoMemory};
 use std::alloc::Global;
 use std::marker::Model;
 

@@ -1,5 +1,5 @@
 use crate::{Failed, MemorySink, MemorySource, Sink, Source, StdSink, StdSource, write_all};
-use acts_core::Bytes;
+use byte_lists::Bytes;
 use std::alloc::Global;
 use std::io;
 use std::io::{Read, Write};

@@ -1,13 +1,13 @@
 -- each call, from the answer of its search
 use Rattle.std.proofs.Common.{◌≡◌, ℕ, ◌-◌, ◌<◌, ◌≤◌, Bool, true, ◌&&◌, ◌==◌, cond, List, length, get_or, set, refl, sym, ap, ◌∙◌, arith, Some, find}
 use Rattle.std.specs.List.{position}
-use Rattle.acts_core.specs.declared.rows.Row.{Row}
-use Rattle.acts_core.specs.declared.rows.RowState.{RowState}
-use Rattle.acts_core.specs.declared.rows.RowState.TheVariants.{Available, Locked, Deleted}
-use Rattle.acts_core.specs.History.{Does}
-use Rattle.acts_core.specs.State.{row_entries, row_bytes, counts}
-use Rattle.acts_core.specs.Table.{in_state, left_in}
-use Rattle.acts_core.proofs.Positions.{IsFirstAt, first_at, find_first}
+use Rattle.queue_model.specs.declared.rows.Row.{Row}
+use Rattle.queue_model.specs.declared.rows.RowState.{RowState}
+use Rattle.queue_model.specs.declared.rows.RowState.TheVariants.{Available, Locked, Deleted}
+use Rattle.queue_model.specs.History.{Does}
+use Rattle.queue_model.specs.State.{row_entries, row_bytes, counts}
+use Rattle.queue_model.specs.Table.{in_state, left_in}
+use Rattle.queue_model.proofs.Positions.{IsFirstAt, first_at, find_first}
 use Rattle.plain_queue.specs.Calls.{take_acts, release_acts, ack_acts, is_available, is_locked_by}
 use Rattle.plain_queue.specs.Rows.{one_list, Keeps}
 use Rattle.plain_queue.proofs.Doings.{take_does, release_does, ack_does, keeps_changed, keeps_deleted, counted_row, available_is, locked_is, both_first}

@@ -5,21 +5,21 @@ use Rattle.std.proofs.lemmas.List.Sums.{sum_by-set, sum_by_push}
 use Rattle.std.proofs.lemmas.Bool.{eqb-true}
 use Rattle.std.proofs.Math.Seq.{set-set}
 use Rattle.std.specs.Option.{option_map, option_map_or, option_to_list, unwrap_or}
-use Rattle.acts_core.specs.declared.deeds.Act.{Act}
-use Rattle.acts_core.specs.declared.deeds.Act.TheVariants.{Acq, Rel, Deq, Del, Reserve, GiveBack, Enq}
-use Rattle.acts_core.specs.declared.queues.Queue.{Queue}
-use Rattle.acts_core.specs.declared.queues.Reservation.{Reservation}
-use Rattle.acts_core.specs.declared.rows.Row.{Row}
-use Rattle.acts_core.specs.declared.rows.RowState.{RowState}
-use Rattle.acts_core.specs.declared.rows.RowState.TheVariants.{Available, Locked, Unlocked, Dequeued, Deleted}
-use Rattle.acts_core.specs.Keyed.{alter}
-use Rattle.acts_core.specs.State.{is_row, is_holder, nothing, size_at, entries, row_entries, row_bytes, counts}
-use Rattle.acts_core.specs.Table.{Can, CanGive, acted, in_state, left_in, less, reserving, most_bytes, most_entries}
-use Rattle.acts_core.specs.History.{Does, deeds_of}
+use Rattle.queue_model.specs.declared.deeds.Act.{Act}
+use Rattle.queue_model.specs.declared.deeds.Act.TheVariants.{Acq, Rel, Deq, Del, Reserve, GiveBack, Enq}
+use Rattle.queue_model.specs.declared.queues.Queue.{Queue}
+use Rattle.queue_model.specs.declared.queues.Reservation.{Reservation}
+use Rattle.queue_model.specs.declared.rows.Row.{Row}
+use Rattle.queue_model.specs.declared.rows.RowState.{RowState}
+use Rattle.queue_model.specs.declared.rows.RowState.TheVariants.{Available, Locked, Unlocked, Dequeued, Deleted}
+use Rattle.queue_model.specs.Keyed.{alter}
+use Rattle.queue_model.specs.State.{is_row, is_holder, nothing, size_at, entries, row_entries, row_bytes, counts}
+use Rattle.queue_model.specs.Table.{Can, CanGive, acted, in_state, left_in, less, reserving, most_bytes, most_entries}
+use Rattle.queue_model.specs.History.{Does, deeds_of}
 use Rattle.plain_queue.specs.Calls.{put_acts, take_acts, release_acts, ack_acts, plain_slip, is_available, is_locked_by}
-use Rattle.acts_core.specs.Sound.{Sound}
-use Rattle.acts_core.proofs.RowFacts.{first_entry}
-use Rattle.acts_core.proofs.SoundSteps.{sound_after}
+use Rattle.queue_model.specs.Sound.{Sound}
+use Rattle.queue_model.proofs.RowFacts.{first_entry}
+use Rattle.queue_model.proofs.SoundSteps.{sound_after}
 use Rattle.plain_queue.specs.Rows.{one_list, NumberedFrom, Keeps}
 use Rattle.plain_queue.proofs.Numbered.{found_by_number, changed_by_number, next_is_new, numbered_set, numbered_push}
 

@@ -2,15 +2,15 @@
 use Rattle.std.proofs.Common.{◌≡◌, ◌≢◌, inr, ℕ, ◌<◌, Bool, true, false, cond, Some, None, List, [], ◌∷◌, filter, find, refl, sym, ap, subst, ◌∙◌, ⊎_elim, arith, eq-eqb, ne_eqb}
 use Rattle.std.proofs.lemmas.Bool.{cases_Bool}
 use Rattle.std.specs.List.{position_or_len, AllByRecursion}
-use Rattle.acts_core.specs.declared.queues.Queue.{Queue}
-use Rattle.acts_core.specs.declared.rows.Row.{Row}
-use Rattle.acts_core.specs.declared.rows.RowState.TheVariants.{Available}
-use Rattle.acts_core.specs.Keyed.{Apart}
-use Rattle.acts_core.specs.Order.{ByList, Precedes}
-use Rattle.acts_core.specs.Sound.{Sound, RowFits, same_number}
-use Rattle.acts_core.specs.State.{is_row, is_of_list, row_at, rows_of, place_at}
-use Rattle.acts_core.proofs.KeyedLemmas.{find-here, find-past, find_passes, position-here, position-past}
-use Rattle.acts_core.proofs.SoundSteps.{list_found, row_fits}
+use Rattle.queue_model.specs.declared.queues.Queue.{Queue}
+use Rattle.queue_model.specs.declared.rows.Row.{Row}
+use Rattle.queue_model.specs.declared.rows.RowState.TheVariants.{Available}
+use Rattle.queue_model.specs.Keyed.{Apart}
+use Rattle.queue_model.specs.Order.{ByList, Precedes}
+use Rattle.queue_model.specs.Sound.{Sound, RowFits, same_number}
+use Rattle.queue_model.specs.State.{is_row, is_of_list, row_at, rows_of, place_at}
+use Rattle.queue_model.proofs.KeyedLemmas.{find-here, find-past, find_passes, position-here, position-past}
+use Rattle.queue_model.proofs.SoundSteps.{list_found, row_fits}
 use Rattle.plain_queue.specs.Calls.{is_available, first_available}
 use Rattle.plain_queue.proofs.Answered.{available_row}
 use Rattle.plain_queue.proofs.Doings.{available_is}

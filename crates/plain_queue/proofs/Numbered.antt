@@ -1,10 +1,10 @@
 -- rows that are numbered by their places
 use Rattle.std.proofs.Common.{◌≡◌, ℕ, zero, suc, ◌+◌, ◌<◌, ◌≤◌, cond, List, [], ◌∷◌, ◌++◌, length, get_or, set, refl, sym, ap, ◌∙◌, arith, Some, None, eq-eqb, ne_eqb, find}
 use Rattle.std.specs.Option.{option_map}
-use Rattle.acts_core.specs.declared.rows.Row.{Row}
-use Rattle.acts_core.specs.Keyed.{alter}
-use Rattle.acts_core.specs.State.{is_row}
-use Rattle.acts_core.proofs.Positions.{IsFirstAt, find_first, alter_set}
+use Rattle.queue_model.specs.declared.rows.Row.{Row}
+use Rattle.queue_model.specs.Keyed.{alter}
+use Rattle.queue_model.specs.State.{is_row}
+use Rattle.queue_model.proofs.Positions.{IsFirstAt, find_first, alter_set}
 use Rattle.plain_queue.specs.Rows.{NumberedFrom}
 
 pub number_at : (n i m : ℕ) (xs : List Row) (d : Row) → NumberedFrom n xs → i < length xs → m ≡ n + i → (get_or xs i d).number ≡ m

@@ -1,9 +1,9 @@
 -- how the rows of a one-thread queue stand for its state
 use Rattle.std.specs.Prelude.{◌≡◌, ℕ, suc, List, [], ◌∷◌, sum_by}
-use Rattle.acts_core.specs.declared.queues.Queue.{Queue}
-use Rattle.acts_core.specs.declared.rows.Row.{Row}
-use Rattle.acts_core.specs.Sound.{Sound}
-use Rattle.acts_core.specs.State.{row_entries, row_bytes}
+use Rattle.queue_model.specs.declared.queues.Queue.{Queue}
+use Rattle.queue_model.specs.declared.rows.Row.{Row}
+use Rattle.queue_model.specs.Sound.{Sound}
+use Rattle.queue_model.specs.State.{row_entries, row_bytes}
 
 -- the state of one list and no consumers that has these rows, with nothing reserved
 abbrev pub one_list : List Row → Queue

@@ -4,15 +4,16 @@
 
 ghost use Rattle.std.specs.Prelude.{◌≡◌, ◌≤◌, ◌<◌, ◌^◌, length, OnOk, OnErr, ℕ, slice_get};
 ghost use Rattle.std.specs.Option.{option_map};
-ghost use Rattle.acts_core.specs.History.{Does};
-ghost use Rattle.acts_core.specs.State.{depth, empty, entries};
-ghost use Rattle.acts_core.specs.Table.{most_bytes, most_entries};
+ghost use Rattle.queue_model.specs.History.{Does};
+ghost use Rattle.queue_model.specs.State.{depth, empty, entries};
+ghost use Rattle.queue_model.specs.Table.{most_bytes, most_entries};
 ghost use Rattle.plain_queue.specs.Calls.{ack_acts, Handles, put_acts, release_acts, Takes};
 
 pub mod laws;
 mod search;
 
-use acts_core::{Bytes, Depth, NoMemory, Origin, Row, RowState, Slip};
+use byte_lists::{Bytes, NoMemory, Origin};
+use queue_model::{Depth, Row, RowState, Slip};
 use search::{first_available, held_row};
 use std::alloc::Global;
 use std::marker::Model;
@@ -27,7 +28,7 @@ pub struct PlainQueue {
 }
 
 impl Model for PlainQueue {
-    ghost use Rattle.acts_core.specs.declared.queues.Queue.{Queue};
+    ghost use Rattle.queue_model.specs.declared.queues.Queue.{Queue};
     ghost use Rattle.plain_queue.specs.Rows.{Keeps, one_list};
 
     ghost Value = { Queue };

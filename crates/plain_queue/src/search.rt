@@ -1,9 +1,9 @@
 //! Searches through the rows, in order of arrival.
 ghost use Rattle.std.specs.Prelude.{◌≡◌, ◌&&◌, ◌==◌, position};
-ghost use Rattle.acts_core.specs.declared.rows.Row.{Row};
+ghost use Rattle.queue_model.specs.declared.rows.Row.{Row};
 ghost use Rattle.plain_queue.specs.Calls.{is_available, is_locked_by};
 
-use acts_core::{Row, RowState};
+use queue_model::{Row, RowState};
 
 /// Whether a row in this state is available.
 fn is_available(state: RowState) -> bool

@@ -1,5 +1,6 @@
 use crate::PlainQueue;
-use acts_core::{Bytes, Depth, RowState};
+use byte_lists::Bytes;
+use queue_model::{Depth, RowState};
 use std::process::Abort;
 use std::test::Fail;
 

@@ -1,7 +1,7 @@
 -- what stands for a queue, a caller and a row's state in the text of a run
 use Rattle.std.specs.Prelude.{ℕ, ◌-◌, ◌<◌, ◌≤◌, List, [], ◌++◌, length, slice_index_or, Option, Some, None, ⊤, codes}
-use Rattle.acts_core.specs.declared.rows.RowState.{RowState}
-use Rattle.acts_core.specs.declared.rows.RowState.TheVariants.{Available, Locked, Unlocked, Dequeued, Deleted}
+use Rattle.queue_model.specs.declared.rows.RowState.{RowState}
+use Rattle.queue_model.specs.declared.rows.RowState.TheVariants.{Available, Locked, Unlocked, Dequeued, Deleted}
 
 -- the name at a place, from 0
 abbrev pub name_at : List (List ℕ) → ℕ → List ℕ

@@ -2,7 +2,7 @@
 use Rattle.std.specs.Prelude.{ℕ, ◌<◌, ◌≤◌, Bool, true, false, List, [], ◌++◌, length, slice_range, flat_map, ⊤, codes}
 use Rattle.std.specs.List.{All}
 use Rattle.std.specs.Fmt.{decimal}
-use Rattle.acts_core.specs.declared.queues.Depth.{Depth}
+use Rattle.queue_model.specs.declared.queues.Depth.{Depth}
 use Rattle.report_core.specs.declared.answers.Answer.{Answer}
 use Rattle.report_core.specs.declared.answers.Answer.TheVariants.{Accepted, Staged, Rejected, Blocked, Failed, TooLong, Got, Empty, NoCredit, Closed, FailedId, Acked, NotHeld, Stolen, Released, Outdated, Unlocked, Locked, Stole, NotStealable, Moved, Absent, Begun, Already, Committed, NoTransaction, RolledBack}
 use Rattle.report_core.specs.declared.answers.Dropped.{Dropped}

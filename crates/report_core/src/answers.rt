@@ -1,5 +1,5 @@
 //! What the lines of a script answer, as values.
-use acts_core::{Depth, RowState};
+use queue_model::{Depth, RowState};
 
 /// Places in a list of drops: from `from` up to but without `to`.
 #[derive(Clone, Copy, Debug, PartialEq, Eq)]

@@ -7,9 +7,10 @@ ghost use Rattle.report_core.specs.Names.{name_at, caller_name, state_text, IsCa
 ghost use Rattle.report_core.specs.Words.{said_if, fate_text, drop_text, span_text, full_text, HasQueue, IsSpan};
 
 use crate::answers::{Dropped, Span};
-use acts_core::{Bytes, Depth, RowState};
+use byte_lists::Bytes;
 use itoa::Buffer;
 use outside_io::{Failed, Sink, write_all};
+use queue_model::{Depth, RowState};
 
 /// Writes a number in decimal.
 pub(crate) fn say_number<K: Sink>(out: &mut K, number: u64) -> Result<(), Failed>

@@ -1,8 +1,9 @@
 ghost use Rattle.report_core.specs.Words.{Fits};
 
 use crate::{Answer, Dropped, Resting, Span, write_answer, write_queue};
-use acts_core::{Bytes, Depth, RowState};
+use byte_lists::Bytes;
 use outside_io::MemorySink;
+use queue_model::{Depth, RowState};
 use std::alloc::Global;
 use std::process::Abort;
 use std::test::Fail;

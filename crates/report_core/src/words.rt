@@ -6,7 +6,7 @@ ghost use Rattle.report_core.specs.Words.{said_if, span_text, words, Fits, IsSpa
 
 use crate::answers::{Answer, Dropped, Span};
 use crate::pieces::{say_number_and, say_span, say_then_number, say_then_state, say_two_numbers};
-use acts_core::Bytes;
+use byte_lists::Bytes;
 use outside_io::{Failed, Sink, write_all};
 
 /// Writes the words of a put that was done.

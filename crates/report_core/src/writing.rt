@@ -10,7 +10,7 @@ ghost use Rattle.report_core.specs.Words.{words, Fits};
 use crate::answers::{Answer, Dropped, Resting};
 use crate::pieces::{say_caller, say_then_number};
 use crate::words::say_words;
-use acts_core::Bytes;
+use byte_lists::Bytes;
 use outside_io::{Failed, Sink, write_all};
 
 /// Writes the front of an actor's line: its name and the line's number.

@@ -5,7 +5,7 @@ use Rattle.std.specs.Map.{keys_of, values_of, lookup}
 use Rattle.std.specs.Str.{bytes_eq}
 use Rattle.std.proofs.lemmas.Cmp.{nat_list_eq_equiv}
 use Rattle.indexmap.specs.IndexMap.{insert_entry, set_value_at}
-use Rattle.acts_core.proofs.Positions.{IsFirstAt, first_at}
+use Rattle.queue_model.proofs.Positions.{IsFirstAt, first_at}
 use Rattle.script_read.specs.Phases.{Actors, filed}
 use Rattle.script_read.specs.Scripts.{is_in_phase}
 use Rattle.script_read.specs.declared.lines.Op.{Op}

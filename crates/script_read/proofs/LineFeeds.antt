@@ -1,7 +1,7 @@
 -- where a text parts into lines
 use Rattle.std.proofs.Common.{◌≡◌, ℕ, zero, suc, ◌==◌, Bool, true, false, cond, List, [], ◌∷◌, length, ◌<◌, take, drop, refl, ap, ◌∙◌, arith, Some, None, Option, find}
 use Rattle.std.specs.List.{position}
-use Rattle.acts_core.proofs.Positions.{IsFirstAt, first_at, find_none}
+use Rattle.queue_model.proofs.Positions.{IsFirstAt, first_at, find_none}
 use Rattle.script_read.specs.Lines.{lines_of, onto_first}
 
 abbrev pub is_feed : ℕ → Bool

@@ -4,7 +4,7 @@ ghost use Rattle.defs_read.specs.Allowed.{most_queues};
 ghost use Rattle.defs_read.specs.Defined.{queues_in};
 
 use super::*;
-use acts_core::Bytes;
+use byte_lists::Bytes;
 use defs_read::{ConsumerDef, Defs, QueueDef, QueueKind};
 use message_core::{HeaderValue, Message};
 use std::alloc::{AllocError, Global};

@@ -1,5 +1,5 @@
 //! Lines, as they were read.
-use acts_core::Bytes;
+use byte_lists::Bytes;
 use message_core::Message;
 
 /// What a line says.

@@ -13,7 +13,7 @@ ghost use Rattle.script_read.specs.Parts.{content_said, of_message, priority_in}
 ghost use Rattle.script_read.specs.Reading.{Gives};
 
 use crate::faults::LineFault;
-use acts_core::{Bytes, NoMemory};
+use byte_lists::{Bytes, NoMemory};
 use fields_read::{Field, number, truth};
 use message_core::{Header, HeaderValue, Message, MessageFault};
 use serde_json::{Map, Value};

@@ -6,7 +6,7 @@ ghost use Rattle.script_read.specs.SoFar.{actors_of};
 
 use crate::lines::Op;
 use crate::scripts::Phase;
-use acts_core::{Bytes, NoMemory};
+use byte_lists::{Bytes, NoMemory};
 use indexmap::IndexMap;
 use std::alloc::Global;
 

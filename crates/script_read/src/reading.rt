@@ -15,7 +15,7 @@ use crate::faults::LineFault;
 use crate::lines::{Line, Op, What};
 use crate::messages::message_of;
 use crate::tables::Verb;
-use acts_core::Bytes;
+use byte_lists::Bytes;
 use defs_read::{Defs, LONGEST_LINE};
 use fields_read::{Field, JsonFault, number, read_json};
 use message_core::Message;

@@ -12,7 +12,7 @@ use crate::line_feeds::{first_line, has_nothing};
 use crate::lines::Op;
 use crate::reading::read_line;
 use crate::so_far::SoFar;
-use acts_core::{Bytes, NoMemory};
+use byte_lists::{Bytes, NoMemory};
 use defs_read::Defs;
 use std::alloc::Global;
 

@@ -11,7 +11,7 @@ use crate::faults::LineFault;
 use crate::lines::{Line, Op, What};
 use crate::open_phase::OpenPhase;
 use crate::scripts::{Phase, Script};
-use acts_core::NoMemory;
+use byte_lists::NoMemory;
 use std::alloc::Global;
 use std::collections::BTreeSet;
 use std::mem;

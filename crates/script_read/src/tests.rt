@@ -1,5 +1,5 @@
 use super::*;
-use acts_core::Bytes;
+use byte_lists::Bytes;
 use defs_read::{Defs, QueueDef, QueueKind};
 use std::alloc::{AllocError, Global};
 use std::process::Abort;

@@ -7,7 +7,7 @@ ghost use Rattle.selector_eval.specs.Seen.{seen};
 use crate::Truth;
 use crate::patterns::is_like;
 use crate::values::Value;
-use acts_core::Bytes;
+use byte_lists::Bytes;
 use selector_read::CompareOp;
 
 /// A sign between two numbers.

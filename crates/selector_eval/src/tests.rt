@@ -5,7 +5,7 @@ ghost use Rattle.message_core.specs.Spelling.{IsReadable, IsText};
 
 use crate::patterns::is_like;
 use crate::{Truth, laws, truth};
-use acts_core::Bytes;
+use byte_lists::Bytes;
 use message_core::{Header, HeaderValue, Message};
 use selector_read::read;
 use std::alloc::Global;

@@ -7,7 +7,7 @@ ghost use Rattle.selector_read.specs.Trees.{tree_of};
 
 use crate::levels::{AND, COMPARISON, NOT, OR, SUM, UNARY, math_level};
 use crate::trees::{Expr, MathOp};
-use acts_core::NoMemory;
+use byte_lists::NoMemory;
 use selector_tokens::CompareOp;
 use std::alloc::Global;
 use std::collections::VecDeque;

@@ -1,6 +1,6 @@
 //! What may come next in a text, and why a token may not.
 use crate::trees::Expr;
-use acts_core::{Bytes, NoMemory};
+use byte_lists::{Bytes, NoMemory};
 use thiserror::Error;
 
 /// What may come next. A flag says that NOT stands in the form that is read.

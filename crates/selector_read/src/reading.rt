@@ -13,7 +13,7 @@ use crate::levels::OR;
 use crate::modes::{Mode, StepFault};
 use crate::steps::step;
 use crate::trees::Expr;
-use acts_core::NoMemory;
+use byte_lists::NoMemory;
 use selector_tokens::{Kind, Lexer, SelectorFault};
 use std::alloc::Global;
 

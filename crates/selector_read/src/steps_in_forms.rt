@@ -9,7 +9,7 @@ use crate::begun::{Begun, Forms, MOST_NESTED, boxed};
 use crate::levels::COMPARISON;
 use crate::modes::{Mode, StepFault};
 use crate::trees::Expr;
-use acts_core::Bytes;
+use byte_lists::Bytes;
 use selector_tokens::{Token, Word};
 use std::alloc::Global;
 

@@ -9,7 +9,7 @@ use crate::modes::{Mode, StepFault};
 use crate::patterns::{is_whole_pattern, only_character};
 use crate::steps_on_values::value_step;
 use crate::trees::Expr;
-use acts_core::Bytes;
+use byte_lists::Bytes;
 use selector_tokens::{Token, Word};
 use std::alloc::Global;
 

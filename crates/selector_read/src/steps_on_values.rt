@@ -9,7 +9,7 @@ use crate::begun::{Begun, Forms, boxed};
 use crate::levels::{AND, COMPARISON, OR, PRIMARY, SUM, math_level};
 use crate::modes::{Mode, StepFault};
 use crate::trees::{Expr, MathOp};
-use acts_core::Bytes;
+use byte_lists::Bytes;
 use selector_tokens::{CompareOp, Token, Word};
 use std::alloc::Global;
 

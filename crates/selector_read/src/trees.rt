@@ -1,5 +1,5 @@
 //! Selectors as trees.
-use acts_core::Bytes;
+use byte_lists::Bytes;
 use selector_tokens::CompareOp;
 
 /// An operator on two numbers.

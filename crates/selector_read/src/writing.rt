@@ -11,7 +11,7 @@ use crate::writing_pieces::{
     truth_word_of,
 };
 use crate::{Expr, Selector};
-use acts_core::{Bytes, NoMemory};
+use byte_lists::{Bytes, NoMemory};
 use std::alloc::{AllocError, Global};
 
 /// The level of an expression.

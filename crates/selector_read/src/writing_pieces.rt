@@ -4,7 +4,7 @@ ghost use Rattle.std.specs.Fmt.{signed_decimal};
 ghost use Rattle.selector_read.specs.Writing.{after_comma, comma_list, compare_sign, escape_text, math_sign, quoted, string_byte, truth_word, words};
 
 use crate::{CompareOp, MathOp};
-use acts_core::Bytes;
+use byte_lists::Bytes;
 use itoa::Buffer;
 use std::alloc::AllocError;
 

@@ -1,6 +1,6 @@
 //! The first token of a text, or why there is none.
 use crate::{Kind, Token};
-use acts_core::NoMemory;
+use byte_lists::NoMemory;
 use std::alloc::{AllocError, AllocFailed};
 
 /// A token at the front of a text.

@@ -7,7 +7,7 @@ use crate::Token;
 use crate::found::{Found, Unread};
 use crate::runs::name_run;
 use crate::words::word_of;
-use acts_core::Bytes;
+use byte_lists::Bytes;
 use std::alloc::Global;
 
 /// The identifier or reserved word at the front of the text.

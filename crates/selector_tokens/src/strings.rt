@@ -7,7 +7,7 @@ ghost use Rattle.selector_tokens.specs.Lexing.{begins_with, string_first, string
 use crate::found::{Found, Unread};
 use crate::runs::plain_len;
 use crate::{Kind, Token};
-use acts_core::Bytes;
+use byte_lists::Bytes;
 use std::alloc::Global;
 
 /// Whether the text begins with this byte.

@@ -1,5 +1,5 @@
 use super::*;
-use acts_core::Bytes;
+use byte_lists::Bytes;
 use std::alloc::Global;
 use std::process::Abort;
 use std::str::from_utf8;

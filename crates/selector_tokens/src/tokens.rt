@@ -1,5 +1,5 @@
 //! The tokens of a selector.
-use acts_core::Bytes;
+use byte_lists::Bytes;
 
 /// A comparison of two values.
 #[derive(Clone, Copy, Debug, PartialEq, Eq)]

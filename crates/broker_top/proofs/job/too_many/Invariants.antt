@@ -1,5 +1,5 @@
 use Rattle.std.proofs.Common.{◌≡◌, ◌+◌, ◌≤◌, drop}
-use Rattle.acts_core.specs.Table.{most_entries}
+use Rattle.queue_model.specs.Table.{most_entries}
 use Rattle.broker_top.specs.Job.{too_many}
 use Rattle.broker_top.specs.Running.{puts_in}
 use Rattle.broker_top.proofs.job.too_many.Given as goal

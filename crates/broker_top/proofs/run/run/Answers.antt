@@ -2,7 +2,7 @@ use Rattle.std.proofs.Common.{◌++◌, ◌∷◌, ◌≡◌, sym, ◌∙◌, Li
 use Rattle.std.proofs.lemmas.List.{nil_from_length}
 use Rattle.outside_io.specs.Told.{Adds}
 use Rattle.outside_io.proofs.Says.{adds_then}
-use Rattle.acts_core.specs.Table.{most_entries}
+use Rattle.queue_model.specs.Table.{most_entries}
 use Rattle.report_core.specs.Texts.{answer_line, queue_lines}
 use Rattle.report_core.specs.Words.{words}
 use Rattle.broker_top.specs.Run.{answer_of, given_after, rest_of}

@@ -1,8 +1,8 @@
 use Rattle.std.proofs.Common.{◌≡◌, ◌++◌, ◌+◌, ◌≤◌, Some, true, [], List, ℕ, deque_len}
 use Rattle.std.specs.List.{list_all}
-use Rattle.acts_core.specs.History.{Legal}
-use Rattle.acts_core.specs.State.{empty, entries}
-use Rattle.acts_core.specs.Table.{most_entries}
+use Rattle.queue_model.specs.History.{Legal}
+use Rattle.queue_model.specs.State.{empty, entries}
+use Rattle.queue_model.specs.Table.{most_entries}
 use Rattle.outside_io.specs.Told.{Adds}
 use Rattle.broker_top.specs.Run.{answers_text, final, history, start}
 use Rattle.broker_top.specs.Running.{Counts, is_served, moment_of, puts_in}

@@ -1,8 +1,8 @@
 use Rattle.std.proofs.Common.{◌≡◌, ◌++◌, ◌∷◌, [], List, ℕ, length, arith, ap, ◌<◌}
 use Rattle.std.proofs.lemmas.Grind.{common_steps}
-use Rattle.acts_core.specs.State.{entries}
+use Rattle.queue_model.specs.State.{entries}
 use Rattle.plain_queue.specs.Rows.{one_list}
-use Rattle.acts_core.proofs.Depths.{depth_low}
+use Rattle.queue_model.proofs.Depths.{depth_low}
 use Rattle.plain_queue.proofs.Doings.{put_does, new_row, keeps_put}
 use Rattle.plain_queue.proofs.PlainQueue.put.Goals as goal
 

@@ -1,5 +1,5 @@
 use Rattle.std.proofs.Common.{refl, sym, ◌∙◌}
-use Rattle.acts_core.proofs.Positions.{find_none}
+use Rattle.queue_model.proofs.Positions.{find_none}
 use Rattle.plain_queue.proofs.Answered.{released, row_held}
 use Rattle.plain_queue.proofs.PlainQueue.release.Goals as goal
 

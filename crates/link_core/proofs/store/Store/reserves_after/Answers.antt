@@ -1,5 +1,5 @@
 use Rattle.std.proofs.Common.{arith, ap}
-use Rattle.acts_core.specs.declared.queues.Reservation.{Reservation}
+use Rattle.queue_model.specs.declared.queues.Reservation.{Reservation}
 use Rattle.link_core.proofs.Bounds.{reserved_few, size_few, changed_linked, reserve_few}
 use Rattle.link_core.proofs.store.Store.reserves_after.Goals as goal
 

@@ -1,5 +1,5 @@
 use Rattle.std.proofs.Common.{arith, ap, ◌∙◌}
-use Rattle.acts_core.specs.declared.steps.Step.{Step}
+use Rattle.queue_model.specs.declared.steps.Step.{Step}
 use Rattle.link_core.specs.Kept.{table_in}
 use Rattle.link_core.specs.Steps.{shown}
 use Rattle.link_core.proofs.Bounds.{gives_back, depth_bounds}

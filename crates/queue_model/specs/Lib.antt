@@ -1,0 +1,9 @@
+pub mod Keyed
+pub mod State
+pub mod Table
+pub mod History
+pub mod Order
+pub mod Sound
+pub mod Laws
+pub mod Applied
+pub mod Packing
