@@ -3,3 +3,7 @@ pub mod Sparing
 pub mod Gaining
 pub mod Lasts
 pub mod Forgetting
+pub mod Reserving
+pub mod Aiming
+pub mod Finding
+pub mod Passes

@@ -13,3 +13,4 @@ pub mod Replies
 pub mod Kept
 pub mod Serves
 pub mod Rest
+pub mod Laws

@@ -5,6 +5,7 @@
 pub mod bare;
 pub mod cargoes;
 pub mod cores;
+pub mod laws;
 pub mod shared;
 
 pub use bare::BareCore;
