@@ -7,10 +7,10 @@ ghost use Rattle.link_core.specs.Steps.{place_of_step};
 use queue_model::{DraftWord, Node, RowState, Step, WordName};
 
 /// The worth of an entry in the word of the depth; bytes count one each.
-pub(crate) const ENTRY_WORTH: u64 = 1_099_511_627_776;
+pub const ENTRY_WORTH: u64 = 1_099_511_627_776;
 
 /// Where the link of a node stands.
-pub(crate) fn link_place(node: Node) -> usize
+pub fn link_place(node: Node) -> usize
     requires { link_of node < 4294967296 }
     ensures { result ≡ link_of node }
 {
@@ -21,7 +21,7 @@ pub(crate) fn link_place(node: Node) -> usize
 }
 
 /// Where a draft word of a row stands.
-pub(crate) fn draft_place(row: u64, word: DraftWord) -> usize
+pub fn draft_place(row: u64, word: DraftWord) -> usize
     requires { draft_of row word < 4294967296 }
     ensures { result ≡ draft_of row word }
 {
@@ -35,7 +35,7 @@ pub(crate) fn draft_place(row: u64, word: DraftWord) -> usize
 }
 
 /// Where the word of a name stands.
-pub(crate) fn word_place(name: WordName) -> usize
+pub fn word_place(name: WordName) -> usize
     requires { place_of_word name < 4294967296 }
     ensures { result ≡ place_of_word name }
 {
@@ -54,7 +54,7 @@ pub(crate) fn word_place(name: WordName) -> usize
 }
 
 /// Where the word of a step stands.
-pub(crate) fn step_place(step: Step) -> usize
+pub fn step_place(step: Step) -> usize
     requires { place_of_step step < 4294967296 }
     ensures { result ≡ place_of_step step }
 {
@@ -71,7 +71,7 @@ pub(crate) fn step_place(step: Step) -> usize
 }
 
 /// The word of a state.
-pub(crate) fn state_word(state: RowState) -> u64
+pub fn state_word(state: RowState) -> u64
     requires { pack_state state < 2 ^ 64 }
     ensures { result ≡ pack_state state }
 {
@@ -85,7 +85,7 @@ pub(crate) fn state_word(state: RowState) -> u64
 }
 
 /// The word of a tail that is this node.
-pub(crate) fn node_word(node: Node) -> u64
+pub fn node_word(node: Node) -> u64
     requires { pack_node node < 2 ^ 64 }
     ensures { result ≡ pack_node node }
 {
