@@ -8,28 +8,29 @@ use lib.ListN.{get_elem?}
 use prog.Atomic.{either}
 use Rattle.atomic_table.specs.Table.{State, Me, keeps, takes, gives, put_back, rest, Allows}
 use Rattle.atomic_table.proofs.Lists as lists
-use Rattle.acts_core.specs.declared.deeds.Act.{Act}
-use Rattle.acts_core.specs.declared.deeds.Act.TheVariants as acts
-use Rattle.acts_core.specs.declared.deeds.Deed.{Deed}
-use Rattle.acts_core.specs.declared.queues.Queue.{Queue}
-use Rattle.acts_core.specs.declared.queues.Reservation.{Reservation}
-use Rattle.acts_core.specs.declared.rows.Row.{Row}
-use Rattle.acts_core.specs.declared.rows.RowState.{RowState}
-use Rattle.acts_core.specs.declared.rows.RowState.TheVariants.{Available, Locked, Unlocked, Dequeued, Deleted}
-use Rattle.acts_core.specs.declared.steps.Change.{Change}
-use Rattle.acts_core.specs.declared.steps.Change.TheVariants.{Acq, Lock, Unlock, Steal, Rel, Deq, Del}
-use Rattle.acts_core.specs.declared.steps.DraftWord.{DraftWord}
-use Rattle.acts_core.specs.declared.steps.Node.TheVariants as nodes
-use Rattle.acts_core.specs.declared.steps.Step.TheVariants as steps
-use Rattle.acts_core.specs.History.{after, Legal, own, deed}
-use Rattle.acts_core.specs.Laws.{SameGoods, KeepsDepth}
+use Rattle.queue_model.specs.declared.deeds.Act.{Act}
+use Rattle.queue_model.specs.declared.deeds.Act.TheVariants as acts
+use Rattle.queue_model.specs.declared.deeds.Deed.{Deed}
+use Rattle.queue_model.specs.declared.queues.Queue.{Queue}
+use Rattle.queue_model.specs.declared.queues.Reservation.{Reservation}
+use Rattle.queue_model.specs.declared.rows.Row.{Row}
+use Rattle.queue_model.specs.declared.rows.RowState.{RowState}
+use Rattle.queue_model.specs.declared.rows.RowState.TheVariants.{Available, Locked, Unlocked, Dequeued, Deleted}
+use Rattle.queue_model.specs.declared.steps.Change.{Change}
+use Rattle.queue_model.specs.declared.steps.Change.TheVariants.{Acq, Lock, Unlock, Steal, Rel, Deq, Del}
+use Rattle.queue_model.specs.declared.steps.DraftWord.{DraftWord}
+use Rattle.queue_model.specs.declared.steps.Node.TheVariants as nodes
+use Rattle.queue_model.specs.declared.steps.Step.TheVariants as steps
+use Rattle.queue_model.specs.History.{after, Legal, own, deed}
+use Rattle.queue_model.specs.Laws.{SameGoods, KeepsDepth}
 use Rattle.acts_core.specs.Load.{Load}
-use Rattle.acts_core.specs.State.{is_row, row_at, IsIn, entries}
-use Rattle.acts_core.specs.Table.{Can, acted, changed, in_state, left_in}
-use Rattle.acts_core.proofs.Depths.{depth_kept}
-use Rattle.acts_core.proofs.Histories.{own-mine}
-use Rattle.acts_core.proofs.Owns.{own_acquired, own_locked, own_stolen}
-use Rattle.link_core.specs.Layout.{draft_of, pack_state}
+use Rattle.queue_model.specs.State.{is_row, row_at, IsIn, entries}
+use Rattle.queue_model.specs.Table.{Can, acted, changed, in_state, left_in}
+use Rattle.queue_model.proofs.Depths.{depth_kept}
+use Rattle.queue_model.proofs.Histories.{own-mine}
+use Rattle.queue_model.proofs.Owns.{own_acquired, own_locked, own_stolen}
+use Rattle.link_core.specs.Layout.{draft_of}
+use Rattle.queue_model.specs.Packing.{pack_state}
 use Rattle.link_core.specs.Stands.{Stands}
 use Rattle.link_core.specs.Steps.{FitsState, GoesFrom, IsPackable, goes_to, act_with, changed_by, reserved_after, size_in}
 use Rattle.link_core.specs.Table.{Table, but}
@@ -48,7 +49,7 @@ use Rattle.entry_table.proofs.Reserving.{ends_more}
 use Rattle.entry_table.proofs.Slots.{out_to, takes_more, away_more, takes_back, away_back}
 use Rattle.entry_table.proofs.Entering.{node_now, row_same}
 use Rattle.entry_table.proofs.Ending.{ends_but_any, ender_of, has_more}
-use Rattle.acts_core.specs.declared.rows.Slip.{Slip}
+use Rattle.queue_model.specs.declared.rows.Slip.{Slip}
 use mathlib.Core.List.{IsPrefix}
 
 -- What all changes have in common

@@ -6,19 +6,20 @@ use Rattle.std.proofs.lemmas.Bool.{cases_Bool, cond-true, cond-false, eqb-false}
 use mathlib.Core.Option.{some}
 use lib.ListN.{get_elem?}
 use Rattle.atomic_table.proofs.Lists as lists
-use Rattle.acts_core.specs.declared.queues.Queue.{Queue}
-use Rattle.acts_core.specs.declared.rows.Row.{Row}
-use Rattle.acts_core.specs.declared.rows.RowState.{RowState}
-use Rattle.acts_core.specs.declared.rows.RowState.TheVariants.{Available, Locked, Unlocked, Dequeued, Deleted}
-use Rattle.acts_core.specs.Keyed.{Apart}
+use Rattle.queue_model.specs.declared.queues.Queue.{Queue}
+use Rattle.queue_model.specs.declared.rows.Row.{Row}
+use Rattle.queue_model.specs.declared.rows.RowState.{RowState}
+use Rattle.queue_model.specs.declared.rows.RowState.TheVariants.{Available, Locked, Unlocked, Dequeued, Deleted}
+use Rattle.queue_model.specs.Keyed.{Apart}
 use Rattle.acts_core.specs.Load.{Load}
-use Rattle.acts_core.specs.Sound.{same_number}
-use Rattle.acts_core.specs.State.{row_at, rows_of, is_row, is_of_list, place_at}
-use Rattle.acts_core.proofs.KeyedLemmas.{find-here, find-past, find_none-head, find_none-tail, apart-filter, find_none-filter}
-use Rattle.link_core.specs.Layout.{link_of, pack_state}
+use Rattle.queue_model.specs.Sound.{same_number}
+use Rattle.queue_model.specs.State.{row_at, rows_of, is_row, is_of_list, place_at}
+use Rattle.queue_model.proofs.KeyedLemmas.{find-here, find-past, find_none-head, find_none-tail, apart-filter, find_none-filter}
+use Rattle.link_core.specs.Layout.{link_of}
+use Rattle.queue_model.specs.Packing.{pack_state}
 use Rattle.link_core.specs.Stands.{Stands, Chain, Points}
 use Rattle.link_core.specs.Table.{Table}
-use Rattle.acts_core.specs.declared.steps.Node.TheVariants as nodes
+use Rattle.queue_model.specs.declared.steps.Node.TheVariants as nodes
 use Rattle.entry_table.specs.Rule.{Carries}
 use Rattle.entry_table.specs.Resting.{is_live, live, rests, Keyless, Legible, IsRest, AreRests, Waits, AllWait, Rested, Walking, IsFor}
 use Rattle.entry_table.specs.declared.rest.RestEntry.{RestEntry}

@@ -8,31 +8,31 @@ use lib.ListN.{get_elem?}
 use prog.Atomic.{either}
 use Rattle.atomic_table.specs.Table.{State, Me, gives, put_back, rest, carried_after, Allows}
 use Rattle.atomic_table.proofs.Lists as lists
-use Rattle.acts_core.specs.declared.deeds.Act.{Act}
-use Rattle.acts_core.specs.declared.deeds.Act.TheVariants as acts
-use Rattle.acts_core.specs.declared.deeds.Deed.{Deed}
-use Rattle.acts_core.specs.declared.queues.Queue.{Queue}
-use Rattle.acts_core.specs.declared.queues.Reservation.{Reservation}
-use Rattle.acts_core.specs.declared.rows.Row.{Row}
-use Rattle.acts_core.specs.declared.rows.RowState.TheVariants.{Available}
-use Rattle.acts_core.specs.declared.rows.Slip.{Slip}
-use Rattle.acts_core.specs.declared.steps.DraftWord.{DraftWord}
-use Rattle.acts_core.specs.declared.steps.DraftWord.TheVariants as drafts
-use Rattle.acts_core.specs.declared.steps.Node.{Node}
-use Rattle.acts_core.specs.declared.steps.Node.TheVariants as nodes
-use Rattle.acts_core.specs.declared.steps.Step.TheVariants as steps
-use Rattle.acts_core.specs.History.{after, Legal, own}
-use Rattle.acts_core.specs.Laws.{SameGoods}
+use Rattle.queue_model.specs.declared.deeds.Act.{Act}
+use Rattle.queue_model.specs.declared.deeds.Act.TheVariants as acts
+use Rattle.queue_model.specs.declared.deeds.Deed.{Deed}
+use Rattle.queue_model.specs.declared.queues.Queue.{Queue}
+use Rattle.queue_model.specs.declared.queues.Reservation.{Reservation}
+use Rattle.queue_model.specs.declared.rows.Row.{Row}
+use Rattle.queue_model.specs.declared.rows.RowState.TheVariants.{Available}
+use Rattle.queue_model.specs.declared.rows.Slip.{Slip}
+use Rattle.queue_model.specs.declared.steps.DraftWord.{DraftWord}
+use Rattle.queue_model.specs.declared.steps.DraftWord.TheVariants as drafts
+use Rattle.queue_model.specs.declared.steps.Node.{Node}
+use Rattle.queue_model.specs.declared.steps.Node.TheVariants as nodes
+use Rattle.queue_model.specs.declared.steps.Step.TheVariants as steps
+use Rattle.queue_model.specs.History.{after, Legal, own}
+use Rattle.queue_model.specs.Laws.{SameGoods}
 use Rattle.acts_core.specs.Load.{Load}
-use Rattle.acts_core.specs.State.{is_row, row_at, list_at, place_at, reserved_by, entries}
-use Rattle.acts_core.specs.Table.{Can, CanGive, acted, with_less}
-use Rattle.acts_core.proofs.Depths.{depth_kept}
-use Rattle.acts_core.proofs.Histories.{own-mine, after-append}
-use Rattle.acts_core.proofs.KeyedLemmas.{find-filter_other, find-filter_not}
-use Rattle.acts_core.proofs.Owns.{own_enqueued}
-use Rattle.acts_core.proofs.RowFacts.{row_push_other}
-use Rattle.acts_core.proofs.SoundSteps.{list_found}
-use Rattle.acts_core.proofs.Stable.{row_stays, list_stays, place_stays, new_step}
+use Rattle.queue_model.specs.State.{is_row, row_at, list_at, place_at, reserved_by, entries}
+use Rattle.queue_model.specs.Table.{Can, CanGive, acted, with_less}
+use Rattle.queue_model.proofs.Depths.{depth_kept}
+use Rattle.queue_model.proofs.Histories.{own-mine, after-append}
+use Rattle.queue_model.proofs.KeyedLemmas.{find-filter_other, find-filter_not}
+use Rattle.queue_model.proofs.Owns.{own_enqueued}
+use Rattle.queue_model.proofs.RowFacts.{row_push_other}
+use Rattle.queue_model.proofs.SoundSteps.{list_found}
+use Rattle.queue_model.proofs.Stable.{row_stays, list_stays, place_stays, new_step}
 use Rattle.link_core.specs.Layout.{link_of, draft_of}
 use Rattle.link_core.specs.Stands.{Stands}
 use Rattle.link_core.specs.Steps.{FitsLink, enqueue_with, changed_by, slip_in, size_in, place_behind}

@@ -3,28 +3,28 @@ use Rattle.std.proofs.Common.{◌≡◌, ◌≢◌, ℕ, zero, suc, ◌+◌, ◌
 use Rattle.std.proofs.lemmas.Bool.{cases_eq}
 use prog.Atomic.{either}
 use Rattle.atomic_table.specs.Table.{Me, Allows}
-use Rattle.acts_core.specs.declared.rows.Row.{Row}
-use Rattle.acts_core.specs.declared.rows.RowState.{RowState}
-use Rattle.acts_core.specs.declared.rows.RowState.TheVariants.{Available, Locked, Unlocked, Dequeued, Deleted}
-use Rattle.acts_core.specs.declared.queues.Queue.{Queue}
-use Rattle.acts_core.specs.declared.deeds.Deed.{Deed}
-use Rattle.acts_core.specs.declared.steps.Change.{Change}
-use Rattle.acts_core.specs.declared.steps.Change.TheVariants.{Acq, Lock, Unlock, Steal, Rel, Deq, Del}
-use Rattle.acts_core.specs.declared.steps.Step.TheVariants as steps
-use Rattle.acts_core.specs.History.{after, Legal, own, deed}
+use Rattle.queue_model.specs.declared.rows.Row.{Row}
+use Rattle.queue_model.specs.declared.rows.RowState.{RowState}
+use Rattle.queue_model.specs.declared.rows.RowState.TheVariants.{Available, Locked, Unlocked, Dequeued, Deleted}
+use Rattle.queue_model.specs.declared.queues.Queue.{Queue}
+use Rattle.queue_model.specs.declared.deeds.Deed.{Deed}
+use Rattle.queue_model.specs.declared.steps.Change.{Change}
+use Rattle.queue_model.specs.declared.steps.Change.TheVariants.{Acq, Lock, Unlock, Steal, Rel, Deq, Del}
+use Rattle.queue_model.specs.declared.steps.Step.TheVariants as steps
+use Rattle.queue_model.specs.History.{after, Legal, own, deed}
 use Rattle.acts_core.specs.Load.{Load}
-use Rattle.acts_core.specs.State.{row_at, IsIn}
-use Rattle.acts_core.proofs.Histories.{after-append, legal_rest}
-use Rattle.acts_core.proofs.Stable.{row_stays, held_stays, same_state}
+use Rattle.queue_model.specs.State.{row_at, IsIn}
+use Rattle.queue_model.proofs.Histories.{after-append, legal_rest}
+use Rattle.queue_model.proofs.Stable.{row_stays, held_stays, same_state}
 use Rattle.entry_table.proofs.Joining.{idle_since, is_later, after_went, went_same}
-use Rattle.link_core.specs.Layout.{pack_state}
+use Rattle.queue_model.specs.Packing.{pack_state}
 use Rattle.link_core.specs.Steps.{GoesFrom, IsPackable, goes_to, act_with}
 use Rattle.entry_table.specs.declared.view.Shape.{Shape}
 use Rattle.entry_table.specs.declared.view.View.{View}
 use Rattle.entry_table.specs.Views.{caller_of, state_in}
 use Rattle.entry_table.specs.Rule.{Ruled}
 use Rattle.entry_table.specs.Plays.{Went, Shows, by_me, looked, looked_view, took, ended, TakesOut, IsEnding, DidChange, ShowsState, Slotted, AfterCall, Within, later_view, slotted_view, changed_view}
-use Rattle.acts_core.specs.declared.steps.WordName.TheVariants as names
+use Rattle.queue_model.specs.declared.steps.WordName.TheVariants as names
 use Rattle.entry_table.proofs.Changing.{takes_allowed, ends_allowed, held_out}
 
 goes_locked : (h : ℕ) (change : Change) → TakesOut change → goes_to h change ≡ Locked h

@@ -10,16 +10,16 @@ use mathlib.Core.Option as maybe
 use mathlib.Core.List.{IsPrefix}
 use lib.ListN.{get_elem?}
 use Rattle.atomic_table.proofs.Lists.{at_set, set_here, set_else}
-use Rattle.acts_core.specs.declared.deeds.Deed.{Deed}
-use Rattle.acts_core.specs.declared.queues.Queue.{Queue}
-use Rattle.acts_core.specs.declared.rows.RowState.TheVariants.{Locked}
-use Rattle.acts_core.specs.declared.steps.DraftWord.{DraftWord}
-use Rattle.acts_core.specs.History.{after, Legal, own, is_by}
-use Rattle.acts_core.specs.State.{IsIn}
+use Rattle.queue_model.specs.declared.deeds.Deed.{Deed}
+use Rattle.queue_model.specs.declared.queues.Queue.{Queue}
+use Rattle.queue_model.specs.declared.rows.RowState.TheVariants.{Locked}
+use Rattle.queue_model.specs.declared.steps.DraftWord.{DraftWord}
+use Rattle.queue_model.specs.History.{after, Legal, own, is_by}
+use Rattle.queue_model.specs.State.{IsIn}
 use Rattle.link_core.specs.Layout.{draft_of}
-use Rattle.acts_core.proofs.Histories.{own-append}
-use Rattle.acts_core.proofs.Prefixes.{prefix_self, prefix_more, prefix_trans}
-use Rattle.acts_core.proofs.Stable.{held_stays}
+use Rattle.queue_model.proofs.Histories.{own-append}
+use Rattle.queue_model.proofs.Prefixes.{prefix_self, prefix_more, prefix_trans}
+use Rattle.queue_model.proofs.Stable.{held_stays}
 use Rattle.entry_table.specs.declared.view.Drawing.{Drawing}
 use Rattle.entry_table.specs.declared.view.Shape.{Shape}
 use Rattle.entry_table.specs.declared.view.Told.{Told}

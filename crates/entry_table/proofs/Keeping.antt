@@ -6,20 +6,20 @@ use mathlib.Core.Option as maybe
 use mathlib.Core.List.{IsPrefix}
 use lib.ListN.{get_elem?}
 use Rattle.atomic_table.specs.Table.{State}
-use Rattle.acts_core.specs.declared.deeds.Act.{Act}
-use Rattle.acts_core.specs.declared.deeds.Deed.{Deed}
-use Rattle.acts_core.specs.declared.queues.Queue.{Queue}
-use Rattle.acts_core.specs.declared.queues.Reservation.{Reservation}
-use Rattle.acts_core.specs.declared.rows.RowState.{RowState}
-use Rattle.acts_core.specs.declared.rows.RowState.TheVariants.{Locked}
-use Rattle.acts_core.specs.History.{after, Legal, own, deed, deeds_of}
+use Rattle.queue_model.specs.declared.deeds.Act.{Act}
+use Rattle.queue_model.specs.declared.deeds.Deed.{Deed}
+use Rattle.queue_model.specs.declared.queues.Queue.{Queue}
+use Rattle.queue_model.specs.declared.queues.Reservation.{Reservation}
+use Rattle.queue_model.specs.declared.rows.RowState.{RowState}
+use Rattle.queue_model.specs.declared.rows.RowState.TheVariants.{Locked}
+use Rattle.queue_model.specs.History.{after, Legal, own, deed, deeds_of}
 use Rattle.acts_core.specs.Load.{Load}
-use Rattle.acts_core.specs.State.{entries, IsIn, reserved_by}
-use Rattle.acts_core.specs.Table.{Can}
-use Rattle.acts_core.proofs.Histories.{own-append, own-mine, own-other, after-append, legal-append, legal_rest}
-use Rattle.acts_core.proofs.Prefixes.{prefix_more, prefix_self, prefix_trans}
-use Rattle.acts_core.proofs.Stable.{held_stays, reserved_stays}
-use Rattle.acts_core.proofs.Owns.{own_rest}
+use Rattle.queue_model.specs.State.{entries, IsIn, reserved_by}
+use Rattle.queue_model.specs.Table.{Can}
+use Rattle.queue_model.proofs.Histories.{own-append, own-mine, own-other, after-append, legal-append, legal_rest}
+use Rattle.queue_model.proofs.Prefixes.{prefix_more, prefix_self, prefix_trans}
+use Rattle.queue_model.proofs.Stable.{held_stays, reserved_stays}
+use Rattle.queue_model.proofs.Owns.{own_rest}
 use Rattle.link_core.specs.Stands.{Stands}
 use Rattle.entry_table.specs.declared.view.Shape.{Shape}
 use Rattle.entry_table.specs.declared.view.View.{View}

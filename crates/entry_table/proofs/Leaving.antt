@@ -5,16 +5,16 @@ use Rattle.std.proofs.lemmas.Bool.{cases_Bool, cond-true, cond-false}
 use mathlib.Core.Option.{some}
 use mathlib.Core.Option as maybe
 use lib.ListN.{get_elem?}
-use Rattle.acts_core.specs.declared.queues.Queue.{Queue}
-use Rattle.acts_core.specs.declared.queues.Reservation.{Reservation}
-use Rattle.acts_core.specs.declared.rows.Row.{Row}
-use Rattle.acts_core.specs.declared.rows.RowState.{RowState}
-use Rattle.acts_core.specs.declared.rows.RowState.TheVariants.{Available, Locked, Unlocked, Dequeued, Deleted}
-use Rattle.acts_core.specs.Keyed.{Apart}
+use Rattle.queue_model.specs.declared.queues.Queue.{Queue}
+use Rattle.queue_model.specs.declared.queues.Reservation.{Reservation}
+use Rattle.queue_model.specs.declared.rows.Row.{Row}
+use Rattle.queue_model.specs.declared.rows.RowState.{RowState}
+use Rattle.queue_model.specs.declared.rows.RowState.TheVariants.{Available, Locked, Unlocked, Dequeued, Deleted}
+use Rattle.queue_model.specs.Keyed.{Apart}
 use Rattle.acts_core.specs.Load.{Load}
-use Rattle.acts_core.specs.Sound.{same_number}
-use Rattle.acts_core.specs.State.{row_at, rows_of, is_row, is_of_list}
-use Rattle.acts_core.proofs.KeyedLemmas.{find-here, find-past, find_none-head, find_none-tail, find_none-cons, apart-filter, find_none-filter}
+use Rattle.queue_model.specs.Sound.{same_number}
+use Rattle.queue_model.specs.State.{row_at, rows_of, is_row, is_of_list}
+use Rattle.queue_model.proofs.KeyedLemmas.{find-here, find-past, find_none-head, find_none-tail, find_none-cons, apart-filter, find_none-filter}
 use Rattle.link_core.specs.Stands.{Stands}
 use Rattle.entry_table.specs.declared.view.Shape.{Shape}
 use Rattle.entry_table.specs.Rule.{table_at, Lies, Cargoes}
@@ -24,9 +24,9 @@ use Rattle.entry_table.proofs.Closing.{less_at, all_found, of_list}
 use Rattle.entry_table.proofs.Counting.{few, few_rows}
 use Rattle.std.specs.Prelude.{slice_index}
 use Rattle.atomic_table.specs.Table.{Final, Seen}
-use Rattle.acts_core.specs.declared.deeds.Deed.{Deed}
-use Rattle.acts_core.specs.History.{own}
-use Rattle.acts_core.proofs.Histories.{own-append}
+use Rattle.queue_model.specs.declared.deeds.Deed.{Deed}
+use Rattle.queue_model.specs.History.{own}
+use Rattle.queue_model.proofs.Histories.{own-append}
 use Rattle.entry_table.specs.declared.view.View.{View}
 use Rattle.entry_table.specs.Views.{Has, state_in}
 use Rattle.entry_table.specs.Rule.{Ruled}

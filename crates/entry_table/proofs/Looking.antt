@@ -8,17 +8,17 @@ use lib.ListN.{get_elem?}
 use prog.Atomic.{either}
 use Rattle.atomic_table.specs.Table.{State, Me, Act as TableAct, keeps, Valid, carried_after, stepped, Allows}
 use Rattle.atomic_table.proofs.Lists.{exchanged}
-use Rattle.acts_core.specs.declared.deeds.Deed.{Deed}
-use Rattle.acts_core.specs.declared.queues.Reservation.{Reservation}
-use Rattle.acts_core.specs.declared.steps.DraftWord.{DraftWord}
-use Rattle.acts_core.specs.declared.steps.Step.{Step}
-use Rattle.acts_core.specs.declared.steps.Step.TheVariants as steps
-use Rattle.acts_core.specs.declared.steps.WordName.TheVariants as names
+use Rattle.queue_model.specs.declared.deeds.Deed.{Deed}
+use Rattle.queue_model.specs.declared.queues.Reservation.{Reservation}
+use Rattle.queue_model.specs.declared.steps.DraftWord.{DraftWord}
+use Rattle.queue_model.specs.declared.steps.Step.{Step}
+use Rattle.queue_model.specs.declared.steps.Step.TheVariants as steps
+use Rattle.queue_model.specs.declared.steps.WordName.TheVariants as names
 use Rattle.link_core.specs.Steps.{place_of_step, shown}
 use Rattle.link_core.specs.Table.{Table, top}
-use Rattle.acts_core.specs.History.{after, Legal, own}
+use Rattle.queue_model.specs.History.{after, Legal, own}
 use Rattle.acts_core.specs.Load.{Load}
-use Rattle.acts_core.specs.State.{entries}
+use Rattle.queue_model.specs.State.{entries}
 use Rattle.link_core.specs.Layout.{draft_of}
 use Rattle.link_core.specs.Stands.{Stands}
 use Rattle.entry_table.specs.declared.view.Shape.{Shape}

@@ -8,18 +8,19 @@ use mathlib.Core.Option.{some, none}
 use mathlib.Core.Option as maybe
 use lib.ListN.{get_elem?}
 use Rattle.atomic_table.specs.Table.{State, Me, keeps, Allows, opening, Final, Seen}
-use Rattle.acts_core.specs.declared.deeds.Deed.{Deed}
-use Rattle.acts_core.specs.declared.queues.Queue.{Queue}
-use Rattle.acts_core.specs.declared.queues.Reservation.{Reservation}
-use Rattle.acts_core.specs.declared.rows.Row.{Row}
-use Rattle.acts_core.specs.declared.steps.DraftWord.{DraftWord}
-use Rattle.acts_core.specs.declared.steps.DraftWord.TheVariants as drafts
-use Rattle.acts_core.specs.History.{after, own}
+use Rattle.queue_model.specs.declared.deeds.Deed.{Deed}
+use Rattle.queue_model.specs.declared.queues.Queue.{Queue}
+use Rattle.queue_model.specs.declared.queues.Reservation.{Reservation}
+use Rattle.queue_model.specs.declared.rows.Row.{Row}
+use Rattle.queue_model.specs.declared.steps.DraftWord.{DraftWord}
+use Rattle.queue_model.specs.declared.steps.DraftWord.TheVariants as drafts
+use Rattle.queue_model.specs.History.{after, own}
 use Rattle.acts_core.specs.Load.{Load}
-use Rattle.acts_core.specs.State.{empty, nothing, row_at, entries}
-use Rattle.acts_core.proofs.Prefixes.{seen_all}
+use Rattle.queue_model.specs.State.{empty, nothing, row_at, entries}
+use Rattle.queue_model.proofs.Prefixes.{seen_all}
 use Rattle.link_core.specs.Fresh.{blank_rows, fresh_front, fresh_words, fresh}
-use Rattle.link_core.specs.Layout.{draft_of, no_bell}
+use Rattle.link_core.specs.Layout.{draft_of}
+use Rattle.queue_model.specs.Packing.{no_bell}
 use Rattle.link_core.specs.Stands.{Stands}
 use Rattle.link_core.proofs.Making.{fresh_stands}
 use Rattle.link_core.proofs.Frames.{draft_low}
@@ -235,4 +236,4 @@ module _ {C : Type 0} (load : C → Load) (shape : Shape) where
       none_front (x ∷ xs) ys e = absurd (cc)
 
       none_seen : (seen H : List Deed) (c : ℕ) → mathlib.Core.List.IsPrefix seen H → own c H ≡ [] → own c seen ≡ []
-      none_seen seen H c p e = none_front (own c seen) (own c p.0) (sym (Rattle.acts_core.proofs.Histories.own-append c seen p.0) ∙ ap (own c) p.1 ∙ e)
+      none_seen seen H c p e = none_front (own c seen) (own c p.0) (sym (Rattle.queue_model.proofs.Histories.own-append c seen p.0) ∙ ap (own c) p.1 ∙ e)

@@ -11,15 +11,15 @@ use native.Mathlib.Decide.{dec_le}
 use lib.ListN.{get_elem?}
 use Rattle.atomic_table.specs.Table.{State, Me, keeps, Allows, Splits, Joins}
 use Rattle.atomic_table.proofs.Lists.{set_else, at_longer}
-use Rattle.acts_core.specs.declared.deeds.Deed.{Deed}
-use Rattle.acts_core.specs.declared.queues.Queue.{Queue}
-use Rattle.acts_core.specs.declared.steps.DraftWord.{DraftWord}
-use Rattle.acts_core.specs.declared.rows.RowState.TheVariants.{Locked}
-use Rattle.acts_core.specs.History.{after, Legal, own}
+use Rattle.queue_model.specs.declared.deeds.Deed.{Deed}
+use Rattle.queue_model.specs.declared.queues.Queue.{Queue}
+use Rattle.queue_model.specs.declared.steps.DraftWord.{DraftWord}
+use Rattle.queue_model.specs.declared.rows.RowState.TheVariants.{Locked}
+use Rattle.queue_model.specs.History.{after, Legal, own}
 use Rattle.acts_core.specs.Load.{Load}
-use Rattle.acts_core.specs.State.{row_at, IsIn, entries}
-use Rattle.acts_core.proofs.Histories.{own-append}
-use Rattle.acts_core.proofs.Prefixes.{prefix_self, prefix_shorter, prefix_length, prefix_whole, own_between}
+use Rattle.queue_model.specs.State.{row_at, IsIn, entries}
+use Rattle.queue_model.proofs.Histories.{own-append}
+use Rattle.queue_model.proofs.Prefixes.{prefix_self, prefix_shorter, prefix_length, prefix_whole, own_between}
 use Rattle.link_core.specs.Layout.{draft_of}
 use Rattle.link_core.specs.Stands.{Stands}
 use Rattle.link_core.specs.Table.{Table}

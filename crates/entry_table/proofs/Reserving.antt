@@ -5,21 +5,22 @@ use Rattle.std.specs.List.{sum_by}
 use mathlib.Core.Option as maybe
 use lib.ListN.{get_elem?}
 use Rattle.atomic_table.specs.Table.{State, Me, step, keeps, carried_after, Allows}
-use Rattle.acts_core.specs.declared.deeds.Act.{Act}
-use Rattle.acts_core.specs.declared.deeds.Act.TheVariants as acts
-use Rattle.acts_core.specs.declared.deeds.Deed.{Deed}
-use Rattle.acts_core.specs.declared.queues.Queue.{Queue}
-use Rattle.acts_core.specs.declared.queues.Reservation.{Reservation}
-use Rattle.acts_core.specs.declared.steps.DraftWord.{DraftWord}
-use Rattle.acts_core.specs.declared.steps.Step.{Step}
-use Rattle.acts_core.specs.declared.steps.Step.TheVariants as steps
-use Rattle.acts_core.specs.History.{after, Legal, own, deed}
+use Rattle.queue_model.specs.declared.deeds.Act.{Act}
+use Rattle.queue_model.specs.declared.deeds.Act.TheVariants as acts
+use Rattle.queue_model.specs.declared.deeds.Deed.{Deed}
+use Rattle.queue_model.specs.declared.queues.Queue.{Queue}
+use Rattle.queue_model.specs.declared.queues.Reservation.{Reservation}
+use Rattle.queue_model.specs.declared.steps.DraftWord.{DraftWord}
+use Rattle.queue_model.specs.declared.steps.Step.{Step}
+use Rattle.queue_model.specs.declared.steps.Step.TheVariants as steps
+use Rattle.queue_model.specs.History.{after, Legal, own, deed}
 use Rattle.acts_core.specs.Load.{Load}
-use Rattle.acts_core.specs.State.{row_at, entries, bytes, reserved_by}
-use Rattle.acts_core.specs.Table.{Can, CanGive, acted, with_more, with_less}
-use Rattle.acts_core.proofs.Depths.{depth_reserving, depth_giving, depth_low}
-use Rattle.acts_core.proofs.Histories.{own-mine}
-use Rattle.link_core.specs.Layout.{draft_of, entry_worth}
+use Rattle.queue_model.specs.State.{row_at, entries, bytes, reserved_by}
+use Rattle.queue_model.specs.Table.{Can, CanGive, acted, with_more, with_less}
+use Rattle.queue_model.proofs.Depths.{depth_reserving, depth_giving, depth_low}
+use Rattle.queue_model.proofs.Histories.{own-mine}
+use Rattle.link_core.specs.Layout.{draft_of}
+use Rattle.queue_model.specs.Packing.{entry_worth}
 use Rattle.link_core.specs.Stands.{Stands}
 use Rattle.link_core.specs.Table.{but}
 use Rattle.link_core.proofs.Bounds.{depth_bounds}

@@ -5,11 +5,11 @@ use Rattle.std.specs.List.{sum_by}
 use Rattle.std.proofs.lemmas.List.{set-get_or}
 use Rattle.std.proofs.lemmas.List.Elements.{filter-append}
 use Rattle.atomic_table.specs.Table.{Me, keeps, Allows}
-use Rattle.acts_core.specs.declared.deeds.Deed.{Deed}
-use Rattle.acts_core.specs.History.{after, own}
+use Rattle.queue_model.specs.declared.deeds.Deed.{Deed}
+use Rattle.queue_model.specs.History.{after, own}
 use Rattle.acts_core.specs.Load.{Load}
-use Rattle.acts_core.specs.State.{entries}
-use Rattle.acts_core.proofs.Owns.{own_rest}
+use Rattle.queue_model.specs.State.{entries}
+use Rattle.queue_model.proofs.Owns.{own_rest}
 use Rattle.entry_table.specs.declared.view.Shape.{Shape}
 use Rattle.entry_table.specs.declared.view.Told.{Told}
 use Rattle.entry_table.specs.declared.view.View.{View}

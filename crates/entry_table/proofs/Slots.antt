@@ -9,16 +9,16 @@ use mathlib.Core.Option as maybe
 use lib.ListN.{get_elem?}
 use Rattle.atomic_table.specs.Table.{State, Me, takes, gives, put_back, rest, Allows}
 use Rattle.atomic_table.proofs.Lists as lists
-use Rattle.acts_core.specs.declared.deeds.Deed.{Deed}
-use Rattle.acts_core.specs.declared.queues.Queue.{Queue}
-use Rattle.acts_core.specs.declared.rows.Row.{Row}
-use Rattle.acts_core.specs.declared.rows.RowState.{RowState}
-use Rattle.acts_core.specs.declared.rows.RowState.TheVariants.{Available, Locked, Unlocked, Dequeued, Deleted}
-use Rattle.acts_core.specs.declared.steps.Step.{Step}
-use Rattle.acts_core.specs.History.{after, own}
+use Rattle.queue_model.specs.declared.deeds.Deed.{Deed}
+use Rattle.queue_model.specs.declared.queues.Queue.{Queue}
+use Rattle.queue_model.specs.declared.rows.Row.{Row}
+use Rattle.queue_model.specs.declared.rows.RowState.{RowState}
+use Rattle.queue_model.specs.declared.rows.RowState.TheVariants.{Available, Locked, Unlocked, Dequeued, Deleted}
+use Rattle.queue_model.specs.declared.steps.Step.{Step}
+use Rattle.queue_model.specs.History.{after, own}
 use Rattle.acts_core.specs.Load.{Load}
-use Rattle.acts_core.specs.State.{row_at, IsIn, entries}
-use Rattle.acts_core.proofs.Stable.{same_state}
+use Rattle.queue_model.specs.State.{row_at, IsIn, entries}
+use Rattle.queue_model.proofs.Stable.{same_state}
 use Rattle.link_core.proofs.Drawing.{not_linked}
 use Rattle.link_core.specs.Steps.{place_of_step, shown}
 use Rattle.link_core.specs.Table.{Table, top}

@@ -1,19 +1,19 @@
 -- what contracts see of a pass and of a table
 use Rattle.std.specs.Prelude.{◌≡◌, ◌<◌, ℕ, Some, None, ◌+◌, List, [], ◌∷◌, ◌++◌, length}
-use Rattle.acts_core.specs.declared.deeds.Act.{Act}
-use Rattle.acts_core.specs.declared.deeds.Deed.{Deed}
-use Rattle.acts_core.specs.declared.queues.Queue.{Queue}
-use Rattle.acts_core.specs.declared.steps.WordName.{WordName}
-use Rattle.acts_core.specs.History.{after, deed, deeds_of}
-use Rattle.acts_core.specs.State.{nothing, depth}
-use Rattle.acts_core.specs.declared.queues.Depth.{Depth}
-use Rattle.acts_core.specs.declared.steps.Step.{Step}
-use Rattle.link_core.specs.Layout.{pack_depth}
+use Rattle.queue_model.specs.declared.deeds.Act.{Act}
+use Rattle.queue_model.specs.declared.deeds.Deed.{Deed}
+use Rattle.queue_model.specs.declared.queues.Queue.{Queue}
+use Rattle.queue_model.specs.declared.steps.WordName.{WordName}
+use Rattle.queue_model.specs.History.{after, deed, deeds_of}
+use Rattle.queue_model.specs.State.{nothing, depth}
+use Rattle.queue_model.specs.declared.queues.Depth.{Depth}
+use Rattle.queue_model.specs.declared.steps.Step.{Step}
+use Rattle.queue_model.specs.Packing.{pack_depth}
 use mathlib.Core.List.{IsPrefix}
 use Rattle.link_core.specs.Steps as fitting
 use Rattle.entry_table.specs.declared.view.Drawing.{Drawing}
 use Rattle.entry_table.specs.declared.view.Shape.{Shape}
-use Rattle.entry_table.specs.declared.view.Tried.{Tried}
+use Rattle.queue_model.specs.declared.steps.Tried.{Tried}
 use Rattle.entry_table.specs.declared.view.View.{View}
 use Rattle.entry_table.specs.declared.pass.Pass.{Pass}
 use Rattle.entry_table.specs.declared.entries.Entries.{Entries}

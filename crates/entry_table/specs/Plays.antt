@@ -2,39 +2,40 @@
 use Rattle.std.specs.Prelude.{true, false, not, filter, ◌≡◌, ◌≢◌, ℕ, zero, suc, ◌+◌, ◌-◌, ◌<◌, ◌≤◌, ◌*◌, ◌^◌, Option, Some, None, List, [], ◌∷◌, ◌++◌, slice_index, length}
 use mathlib.Core.List.{IsPrefix}
 use Rattle.atomic_table.specs.Table.{Me, Step as Played, rest}
-use Rattle.acts_core.specs.declared.deeds.Act.{Act}
-use Rattle.acts_core.specs.declared.deeds.Act.TheVariants as acts
-use Rattle.acts_core.specs.declared.deeds.Deed.{Deed}
-use Rattle.acts_core.specs.declared.queues.Queue.{Queue}
-use Rattle.acts_core.specs.declared.queues.Depth.{Depth}
-use Rattle.acts_core.specs.declared.steps.DraftWord.{DraftWord}
-use Rattle.acts_core.specs.declared.steps.Node.{Node}
-use Rattle.acts_core.specs.declared.steps.Node.TheVariants as nodes
-use Rattle.acts_core.specs.declared.steps.Step.{Step}
-use Rattle.acts_core.specs.declared.steps.Step.TheVariants as steps
-use Rattle.acts_core.specs.declared.steps.WordName.{WordName}
-use Rattle.acts_core.specs.declared.steps.WordName.TheVariants as names
+use Rattle.queue_model.specs.declared.deeds.Act.{Act}
+use Rattle.queue_model.specs.declared.deeds.Act.TheVariants as acts
+use Rattle.queue_model.specs.declared.deeds.Deed.{Deed}
+use Rattle.queue_model.specs.declared.queues.Queue.{Queue}
+use Rattle.queue_model.specs.declared.queues.Depth.{Depth}
+use Rattle.queue_model.specs.declared.steps.DraftWord.{DraftWord}
+use Rattle.queue_model.specs.declared.steps.Node.{Node}
+use Rattle.queue_model.specs.declared.steps.Node.TheVariants as nodes
+use Rattle.queue_model.specs.declared.steps.Step.{Step}
+use Rattle.queue_model.specs.declared.steps.Step.TheVariants as steps
+use Rattle.queue_model.specs.declared.steps.WordName.{WordName}
+use Rattle.queue_model.specs.declared.steps.WordName.TheVariants as names
 use Rattle.std.specs.List.{AllByRecursion}
-use Rattle.entry_table.specs.declared.view.Tried.{Tried}
+use Rattle.queue_model.specs.declared.steps.Tried.{Tried}
 use Rattle.entry_table.specs.declared.draft.Draft.{Draft}
 use Rattle.entry_table.specs.declared.draft.Linking.{Linking}
 use Rattle.entry_table.specs.declared.draft.Linking.TheVariants.{Linked, Behind}
 use Rattle.entry_table.specs.declared.states.Exchanged.{Exchanged}
 use Rattle.entry_table.specs.declared.states.Exchanged.TheVariants.{Done, Shown as ShownState}
-use Rattle.acts_core.specs.declared.steps.Change.TheVariants as changes
-use Rattle.acts_core.specs.State.{IsIn}
-use Rattle.acts_core.specs.History.{after, Legal, own, deed, deeds_of}
+use Rattle.queue_model.specs.declared.steps.Change.TheVariants as changes
+use Rattle.queue_model.specs.State.{IsIn}
+use Rattle.queue_model.specs.History.{after, Legal, own, deed, deeds_of}
 use Rattle.acts_core.specs.Load.{Load}
-use Rattle.acts_core.specs.State.{row_at, list_at, place_at, reserved_by, entries, bytes, depth}
-use Rattle.acts_core.specs.Sound.{Sound}
-use Rattle.acts_core.specs.Table.{CanGive, most_bytes}
-use Rattle.acts_core.specs.declared.rows.Row.{Row}
-use Rattle.acts_core.specs.declared.rows.RowState.{RowState}
-use Rattle.acts_core.specs.declared.steps.Change.{Change}
+use Rattle.queue_model.specs.State.{row_at, list_at, place_at, reserved_by, entries, bytes, depth}
+use Rattle.queue_model.specs.Sound.{Sound}
+use Rattle.queue_model.specs.Table.{CanGive, most_bytes}
+use Rattle.queue_model.specs.declared.rows.Row.{Row}
+use Rattle.queue_model.specs.declared.rows.RowState.{RowState}
+use Rattle.queue_model.specs.declared.steps.Change.{Change}
 use Rattle.entry_table.specs.Rule.{Carries}
 use Rattle.link_core.specs.Steps.{shown, goes_to, act_with}
 use Rattle.entry_table.specs.declared.view.Shape.{Shape}
-use Rattle.link_core.specs.Layout.{place_of_word, link_of, pack_state, pack_depth, entry_worth}
+use Rattle.link_core.specs.Layout.{place_of_word, link_of}
+use Rattle.queue_model.specs.Packing.{pack_state, pack_depth, entry_worth}
 use Rattle.link_core.specs.Stands.{Stands}
 use Rattle.link_core.specs.Table.{Table}
 use Rattle.entry_table.specs.declared.view.Drawing.{Drawing}

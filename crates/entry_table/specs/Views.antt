@@ -1,24 +1,24 @@
 -- what stands in a view
 use Rattle.std.specs.Prelude.{◌≡◌, ℕ, Bool, true, false, ◌==◌, nat_le, not, if◌then◌else◌, Option, Some, None, ◌⊎◌, List, [], ◌∷◌, ◌++◌, length, filter, find}
 use Rattle.std.specs.Option.{option_map}
-use Rattle.acts_core.specs.declared.deeds.Act.{Act}
-use Rattle.acts_core.specs.declared.deeds.Act.TheVariants.{Deq, Del, Take}
-use Rattle.acts_core.specs.declared.deeds.Deed.{Deed}
-use Rattle.acts_core.specs.declared.queues.Queue.{Queue}
-use Rattle.acts_core.specs.declared.rows.Slip.{Slip}
-use Rattle.acts_core.specs.declared.steps.DraftWord.{DraftWord}
-use Rattle.acts_core.specs.declared.steps.DraftWord.TheVariants as drafts
-use Rattle.acts_core.specs.declared.steps.Step.{Step}
-use Rattle.acts_core.specs.declared.steps.Step.TheVariants.{Draw, Load}
-use Rattle.acts_core.specs.declared.steps.WordName.TheVariants.{Top}
-use Rattle.acts_core.specs.History.{after}
-use Rattle.acts_core.specs.Keyed.{alter}
-use Rattle.acts_core.specs.State.{empty, IsIn}
-use Rattle.acts_core.specs.declared.rows.RowState.TheVariants.{Locked}
+use Rattle.queue_model.specs.declared.deeds.Act.{Act}
+use Rattle.queue_model.specs.declared.deeds.Act.TheVariants.{Deq, Del, Take}
+use Rattle.queue_model.specs.declared.deeds.Deed.{Deed}
+use Rattle.queue_model.specs.declared.queues.Queue.{Queue}
+use Rattle.queue_model.specs.declared.rows.Slip.{Slip}
+use Rattle.queue_model.specs.declared.steps.DraftWord.{DraftWord}
+use Rattle.queue_model.specs.declared.steps.DraftWord.TheVariants as drafts
+use Rattle.queue_model.specs.declared.steps.Step.{Step}
+use Rattle.queue_model.specs.declared.steps.Step.TheVariants.{Draw, Load}
+use Rattle.queue_model.specs.declared.steps.WordName.TheVariants.{Top}
+use Rattle.queue_model.specs.History.{after}
+use Rattle.queue_model.specs.Keyed.{alter}
+use Rattle.queue_model.specs.State.{empty, IsIn}
+use Rattle.queue_model.specs.declared.rows.RowState.TheVariants.{Locked}
 use Rattle.entry_table.specs.declared.view.Drawing.{Drawing}
 use Rattle.entry_table.specs.declared.view.Shape.{Shape}
 use Rattle.entry_table.specs.declared.view.Told.{Told}
-use Rattle.entry_table.specs.declared.view.Tried.{Tried}
+use Rattle.queue_model.specs.declared.steps.Tried.{Tried}
 use Rattle.entry_table.specs.declared.view.View.{View}
 
 -- k is in the list

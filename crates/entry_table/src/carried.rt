@@ -1,7 +1,7 @@
 //! A row's slot, taken and given back by a load for its sake.
 ghost use Rattle.std.specs.Prelude.{◌≡◌, ℕ, [], ◌∷◌, None, Some};
-ghost use Rattle.acts_core.specs.declared.steps.Step.TheVariants as steps;
-ghost use Rattle.acts_core.specs.declared.steps.WordName.TheVariants as names;
+ghost use Rattle.queue_model.specs.declared.steps.Step.TheVariants as steps;
+ghost use Rattle.queue_model.specs.declared.steps.WordName.TheVariants as names;
 ghost use Rattle.entry_table.specs.Views.{rest_of, state_in, Mine};
 ghost use Rattle.entry_table.specs.Plays.{fetched, given, Slotted};
 

@@ -1,8 +1,8 @@
 //! Steps on the word of the depth.
 ghost use Rattle.std.specs.Prelude.{◌≡◌, ◌≤◌, ◌<◌, ◌+◌, ◌/◌, ◌%◌, [], ◌∷◌, None};
-ghost use Rattle.acts_core.specs.declared.deeds.Act.TheVariants as acts;
-ghost use Rattle.acts_core.specs.declared.steps.Step.TheVariants as steps;
-ghost use Rattle.link_core.specs.Layout.{entry_worth, pack_depth};
+ghost use Rattle.queue_model.specs.declared.deeds.Act.TheVariants as acts;
+ghost use Rattle.queue_model.specs.declared.steps.Step.TheVariants as steps;
+ghost use Rattle.queue_model.specs.Packing.{entry_worth, pack_depth};
 ghost use Rattle.entry_table.specs.Views.{rest_of};
 ghost use Rattle.entry_table.specs.Plays.{DepthShown, reserved};
 ghost use Rattle.entry_table.specs.Passes.{IsPassOf, Kept, Did, ShowsDepth, allowance, share, drawn};
@@ -12,9 +12,9 @@ use crate::freight::Freight;
 use crate::pass::Pass;
 use crate::plays::Reserves;
 use crate::view::View;
-use acts_core::Depth;
 use atomic_table::{Badge, Seat};
 use link_core::places::ENTRY_WORTH;
+use queue_model::Depth;
 use std::mem;
 
 impl<C: Freight> Entries<C> {

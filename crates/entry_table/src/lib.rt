@@ -23,4 +23,4 @@ pub use freight::Freight;
 pub use pass::Pass;
 pub use rest::RestEntry;
 pub use states::Exchanged;
-pub use view::{Drawing, Ruling, Shape, Told, Tried, View};
+pub use view::{Drawing, Ruling, Shape, Told, View};

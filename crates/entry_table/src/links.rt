@@ -11,9 +11,9 @@ use crate::freight::Freight;
 use crate::pass::Pass;
 use crate::plays::{Links, Placing};
 use crate::view::View;
-use acts_core::Node;
 use atomic_table::{Badge, Seat};
 use link_core::places::link_place;
+use queue_model::Node;
 use std::marker::Brand;
 use std::mem;
 

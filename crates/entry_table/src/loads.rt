@@ -1,6 +1,6 @@
 //! Loads of words.
 ghost use Rattle.std.specs.Prelude.{◌≡◌, [], ◌∷◌, ◌++◌};
-ghost use Rattle.acts_core.specs.declared.steps.Step.TheVariants as steps;
+ghost use Rattle.queue_model.specs.declared.steps.Step.TheVariants as steps;
 ghost use Rattle.entry_table.specs.Views.{rest_of, entry};
 ghost use Rattle.entry_table.specs.Plays.{Shows, looked};
 ghost use Rattle.entry_table.specs.Passes.{IsPassOf, Kept, Did, HasWord, state, shown, seen, allowance, share, drawn};
@@ -10,9 +10,9 @@ use crate::freight::Freight;
 use crate::pass::Pass;
 use crate::plays::{Looks, Trying};
 use crate::view::View;
-use acts_core::WordName;
 use atomic_table::{Badge, Seat};
 use link_core::places::word_place;
+use queue_model::WordName;
 use std::marker::Brand;
 use std::mem;
 

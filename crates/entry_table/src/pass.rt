@@ -1,6 +1,6 @@
 //! What one caller knows of a table.
 ghost use Rattle.std.specs.Prelude.{◌≡◌, ℕ, ◌<◌, ◌≤◌, [], ◌∷◌, None};
-ghost use Rattle.acts_core.specs.History.{own};
+ghost use Rattle.queue_model.specs.History.{own};
 ghost use Rattle.entry_table.specs.Views.{view_in, rest_of, state_in};
 ghost use Rattle.entry_table.specs.Plays.{Within};
 ghost use Rattle.entry_table.specs.Props.{Within-prop};

@@ -8,13 +8,13 @@ use std::marker::{Brand, PhantomData};
 
 /// The step that is tried. Each call picks it.
 pub trait Trying {
-    ghost use Rattle.acts_core.specs.declared.steps.Step.{Step};
+    ghost use Rattle.queue_model.specs.declared.steps.Step.{Step};
 
     ghost step: { Step };
 }
 
 impl Trying for Brand {
-    ghost use Rattle.acts_core.specs.declared.steps.Step.TheVariants.{Draw};
+    ghost use Rattle.queue_model.specs.declared.steps.Step.TheVariants.{Draw};
 
     ghost step = { Draw };
 }
@@ -39,7 +39,7 @@ impl<C> Play<Option<C>, View> for Reserves {
 
 /// The row that is linked, and the node behind which it comes. Each call picks them.
 pub trait Placing {
-    ghost use Rattle.acts_core.specs.declared.steps.Node.{Node};
+    ghost use Rattle.queue_model.specs.declared.steps.Node.{Node};
 
     ghost number: { ℕ };
 
@@ -47,7 +47,7 @@ pub trait Placing {
 }
 
 impl Placing for Brand {
-    ghost use Rattle.acts_core.specs.declared.steps.Node.TheVariants.{Head};
+    ghost use Rattle.queue_model.specs.declared.steps.Node.TheVariants.{Head};
 
     ghost number = { 0 };
 
@@ -72,8 +72,8 @@ pub struct Fetches<J> {
 
 impl<C, J: Placing> Play<Option<C>, View> for Fetches<J> {
     ghost use Rattle.entry_table.specs.Plays.{fetched};
-    ghost use Rattle.acts_core.specs.declared.steps.Step.TheVariants.{Load};
-    ghost use Rattle.acts_core.specs.declared.steps.WordName.TheVariants.{Callers};
+    ghost use Rattle.queue_model.specs.declared.steps.Step.TheVariants.{Load};
+    ghost use Rattle.queue_model.specs.declared.steps.WordName.TheVariants.{Callers};
 
     ghost then = { λ st. fetched J.number (Load Callers) };
 }
@@ -83,8 +83,8 @@ pub struct Gives;
 
 impl<C> Play<Option<C>, View> for Gives {
     ghost use Rattle.entry_table.specs.Plays.{given};
-    ghost use Rattle.acts_core.specs.declared.steps.Step.TheVariants.{Load};
-    ghost use Rattle.acts_core.specs.declared.steps.WordName.TheVariants.{Callers};
+    ghost use Rattle.queue_model.specs.declared.steps.Step.TheVariants.{Load};
+    ghost use Rattle.queue_model.specs.declared.steps.WordName.TheVariants.{Callers};
 
     ghost then = { λ st. given (Load Callers) };
 }

@@ -3,21 +3,21 @@ ghost use Rattle.std.specs.Prelude.{[], ◌≡◌, ◌<◌, ◌≤◌, ℕ, ◌+
 ghost use Rattle.std.specs.Slots.{slots_items, slots_len, slots_filled, IsFull};
 ghost use mathlib.Core.Option.{some};
 ghost use lib.ListN.{get_elem?};
-ghost use Rattle.acts_core.specs.declared.rows.RowState.{RowState};
-ghost use Rattle.acts_core.specs.declared.rows.Row.{Row};
-ghost use Rattle.acts_core.specs.declared.queues.Queue.{Queue};
-ghost use Rattle.link_core.specs.Layout.{pack_state};
+ghost use Rattle.queue_model.specs.declared.rows.RowState.{RowState};
+ghost use Rattle.queue_model.specs.declared.rows.Row.{Row};
+ghost use Rattle.queue_model.specs.declared.queues.Queue.{Queue};
+ghost use Rattle.queue_model.specs.Packing.{pack_state};
 ghost use Rattle.link_core.specs.Stands.{Stands};
 ghost use Rattle.entry_table.specs.Resting.{IsRest, AreRests, Rested, Legible, Settled, IsFor, rests};
-ghost use Rattle.acts_core.specs.History.{own};
+ghost use Rattle.queue_model.specs.History.{own};
 ghost use Rattle.entry_table.specs.Views.{Has};
 ghost use Rattle.entry_table.specs.Passes.{IsPassOf, view, callers, state, seen};
 
 use crate::entries::Entries;
 use crate::freight::Freight;
 use crate::pass::Pass;
-use acts_core::{RowState, Slip};
 use atomic_table::Closed;
+use queue_model::{RowState, Slip};
 use std::alloc::Global;
 use std::mem;
 

@@ -1,14 +1,14 @@
 //! Exchanges of a row's state.
 ghost use Rattle.std.specs.Prelude.{◌≡◌, ◌≢◌, ℕ, ◌≤◌, ◌<◌, [], ◌∷◌, None, Some};
-ghost use Rattle.acts_core.specs.declared.rows.Row.{Row};
-ghost use Rattle.acts_core.specs.State.{row_at, IsIn};
-ghost use Rattle.link_core.specs.Layout.{pack_state};
+ghost use Rattle.queue_model.specs.declared.rows.Row.{Row};
+ghost use Rattle.queue_model.specs.State.{row_at, IsIn};
+ghost use Rattle.queue_model.specs.Packing.{pack_state};
 ghost use Rattle.link_core.specs.Steps.{GoesFrom, IsPackable, goes_to};
 ghost use Rattle.entry_table.specs.Views.{rest_of, state_in};
 ghost use Rattle.entry_table.specs.Plays.{took, ended, TakesOut, IsEnding, Taking, DidChange, AfterCall};
-ghost use Rattle.acts_core.specs.declared.deeds.Act.TheVariants as acts;
-ghost use Rattle.acts_core.specs.declared.steps.Change.TheVariants as changes;
-ghost use Rattle.acts_core.specs.declared.rows.RowState.TheVariants.{Locked};
+ghost use Rattle.queue_model.specs.declared.deeds.Act.TheVariants as acts;
+ghost use Rattle.queue_model.specs.declared.steps.Change.TheVariants as changes;
+ghost use Rattle.queue_model.specs.declared.rows.RowState.TheVariants.{Locked};
 ghost use Rattle.entry_table.specs.Passes.{IsPassOf, Kept, Did, view, state, allowance, share};
 
 use crate::entries::Entries;
@@ -16,16 +16,16 @@ use crate::freight::Freight;
 use crate::pass::Pass;
 use crate::rest::state_of;
 use crate::view::View;
-use acts_core::{Change, RowState};
 use atomic_table::{Badge, Play, Seat};
 use link_core::places::state_word;
+use queue_model::{Change, RowState};
 use std::marker::{Brand, PhantomData};
 use std::mem;
 
 /// The row whose state changes, and how. Each call picks them.
 pub trait Altering {
-    ghost use Rattle.acts_core.specs.declared.steps.Change.{Change};
-    ghost use Rattle.acts_core.specs.declared.rows.RowState.{RowState};
+    ghost use Rattle.queue_model.specs.declared.steps.Change.{Change};
+    ghost use Rattle.queue_model.specs.declared.rows.RowState.{RowState};
 
     ghost target: { ℕ };
 
@@ -35,8 +35,8 @@ pub trait Altering {
 }
 
 impl Altering for Brand {
-    ghost use Rattle.acts_core.specs.declared.steps.Change.TheVariants.{Acq};
-    ghost use Rattle.acts_core.specs.declared.rows.RowState.TheVariants.{Available};
+    ghost use Rattle.queue_model.specs.declared.steps.Change.TheVariants.{Acq};
+    ghost use Rattle.queue_model.specs.declared.rows.RowState.TheVariants.{Available};
 
     ghost target = { 0 };
 

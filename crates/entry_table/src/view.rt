@@ -1,7 +1,7 @@
 //! What a pass knows of its table, and the rule of the table. All of it exists in proofs alone, but for the shape.
 use crate::freight::Freight;
-use acts_core::{Deed, Queue, Step};
 use atomic_table::TableRule;
+use queue_model::{Deed, Queue, Tried};
 use std::collections::LinkedList;
 use std::marker::PhantomData;
 
@@ -14,19 +14,6 @@ pub struct Shape {
     pub lists: u32,
     /// The number of consumers, at most 64.
     pub consumers: u32,
-}
-
-/// One step that a pass tried. No value of it is made.
-#[derive(Drop)]
-pub struct Tried {
-    /// The step.
-    pub step: Step,
-    /// What its word held before.
-    pub before: u64,
-    /// What its word held after.
-    pub later: u64,
-    /// How many deeds the pass had then seen.
-    pub length: u64,
 }
 
 /// A row that a pass drew and has not linked, with its draft words. No value of it is made.

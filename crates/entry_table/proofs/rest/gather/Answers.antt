@@ -5,7 +5,7 @@ use Rattle.std.specs.Slots.{slots_items}
 use mathlib.Core.Option.{some}
 use lib.ListN.{get_elem?}
 use Rattle.link_core.specs.Stands.{IsDrafted}
-use Rattle.acts_core.specs.State.{place_at}
+use Rattle.queue_model.specs.State.{place_at}
 use Rattle.entry_table.specs.Resting.{Walking, Rested, IsFor, is_live}
 use Rattle.std.proofs.Common.{Vec, Global}
 use Rattle.entry_table.specs.Rule.{Carries}

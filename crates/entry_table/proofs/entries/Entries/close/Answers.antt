@@ -1,7 +1,7 @@
 use Rattle.std.proofs.Common.{rules, [], ◌≡◌, ◌<◌, ◌≤◌, ℕ, ◌+◌, ◌*◌, ◌∙◌, sym, ap, subst, arith, List, ◌∷◌}
 use Rattle.std.specs.Slots.{slots_items, slots_len, IsFull}
 use Rattle.atomic_table.specs.Table.{Final, Seen}
-use Rattle.acts_core.specs.declared.queues.Queue.{Queue}
+use Rattle.queue_model.specs.declared.queues.Queue.{Queue}
 use Rattle.entry_table.specs.declared.view.Shape.{Shape}
 use Rattle.entry_table.specs.declared.view.View.{View}
 use Rattle.entry_table.specs.Rule.{Ruled}

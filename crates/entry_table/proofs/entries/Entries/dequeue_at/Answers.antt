@@ -1,9 +1,9 @@
 use Rattle.std.proofs.Common.{rules, ◌≡◌, ◌≢◌, ◌∙◌, sym, ap, subst, ⊎_elim, ℕ}
 use Rattle.std.proofs.lemmas.Bool.{cases_eq}
-use Rattle.acts_core.specs.declared.rows.RowState.TheVariants.{Locked}
-use Rattle.acts_core.specs.declared.steps.Change.TheVariants.{Deq}
-use Rattle.acts_core.specs.State.{IsIn}
-use Rattle.link_core.specs.Layout.{pack_state}
+use Rattle.queue_model.specs.declared.rows.RowState.TheVariants.{Locked}
+use Rattle.queue_model.specs.declared.steps.Change.TheVariants.{Deq}
+use Rattle.queue_model.specs.State.{IsIn}
+use Rattle.queue_model.specs.Packing.{pack_state}
 use Rattle.entry_table.specs.Views.{caller_of, state_in}
 use Rattle.entry_table.specs.Plays.{ShowsState}
 use Rattle.entry_table.proofs.Exchanging.{shown_state, held_shows, after_ended, ended_hit}

@@ -1,6 +1,6 @@
 use Rattle.std.proofs.Common.{rules, refl, arith, subst, sym, ℕ}
-use Rattle.acts_core.specs.declared.steps.Step.TheVariants.{Load}
-use Rattle.acts_core.specs.declared.steps.WordName.TheVariants.{Callers}
+use Rattle.queue_model.specs.declared.steps.Step.TheVariants.{Load}
+use Rattle.queue_model.specs.declared.steps.WordName.TheVariants.{Callers}
 use Rattle.entry_table.specs.Plays.{fetched}
 use Rattle.entry_table.specs.Views.{rest_of, state_in, Mine}
 use Rattle.entry_table.proofs.Slots.{fetches_allowed}

@@ -1,6 +1,6 @@
 use Rattle.std.proofs.Common.{rules, refl, arith}
-use Rattle.acts_core.specs.declared.steps.Step.TheVariants.{Load}
-use Rattle.acts_core.specs.declared.steps.WordName.TheVariants.{Callers}
+use Rattle.queue_model.specs.declared.steps.Step.TheVariants.{Load}
+use Rattle.queue_model.specs.declared.steps.WordName.TheVariants.{Callers}
 use Rattle.entry_table.specs.Views.{rest_of}
 use Rattle.entry_table.proofs.Slots.{gives_allowed}
 use Rattle.entry_table.proofs.entries.Entries.give.Goals as goal

@@ -1,7 +1,7 @@
 use Rattle.std.proofs.Common.{rules, ◌≡◌, ◌≢◌, ℕ, ◌<◌, ◌+◌, ◌*◌, [], ◌∷◌, List, Option, Some, None, sym, ap, ◌∙◌, subst, refl, arith}
 use Rattle.atomic_table.specs.Table.{rest}
 use Rattle.link_core.specs.Layout.{link_of}
-use Rattle.acts_core.specs.declared.deeds.Deed.{Deed}
+use Rattle.queue_model.specs.declared.deeds.Deed.{Deed}
 use Rattle.entry_table.specs.declared.view.View.{View}
 use Rattle.entry_table.specs.declared.view.Shape.{Shape}
 use Rattle.entry_table.specs.declared.draft.Draft.{Draft}

@@ -1,5 +1,5 @@
 use Rattle.std.proofs.Common.{rules, refl, arith, subst, sym, ap, ◌≡◌, ◌∙◌, ℕ, suc, ◌+◌, ◌<◌}
-use Rattle.acts_core.specs.declared.steps.Node.{Node}
+use Rattle.queue_model.specs.declared.steps.Node.{Node}
 use Rattle.link_core.specs.Layout.{link_of}
 use Rattle.entry_table.specs.Plays.{Linkable, linking}
 use Rattle.entry_table.specs.Views.{caller_of, rest_of, state_in}

@@ -1,5 +1,5 @@
 use Rattle.std.proofs.Common.{rules, refl, arith, sym, ap, ◌∙◌, subst, ◌≡◌, ℕ, ◌<◌, ◌+◌, ◌*◌}
-use Rattle.acts_core.specs.declared.steps.Step.{Step}
+use Rattle.queue_model.specs.declared.steps.Step.{Step}
 use Rattle.link_core.specs.Layout.{place_of_word}
 use Rattle.link_core.specs.Steps.{place_of_step}
 use Rattle.entry_table.specs.Plays.{looked}

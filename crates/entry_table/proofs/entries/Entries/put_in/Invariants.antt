@@ -1,4 +1,4 @@
-use Rattle.acts_core.specs.declared.steps.Node.TheVariants.{Head}
+use Rattle.queue_model.specs.declared.steps.Node.TheVariants.{Head}
 use Rattle.entry_table.proofs.entries.Entries.put_in.Given as goal
 
 abbrev pub ghosts-fetch : goal.ghosts-fetch

@@ -1,12 +1,12 @@
 use Rattle.std.proofs.Common.{rules, ◌≡◌, ◌≢◌, ◌∙◌, sym, ap, subst, inr, List, ℕ}
-use Rattle.acts_core.specs.declared.rows.RowState.{RowState}
-use Rattle.acts_core.specs.declared.rows.RowState.TheVariants.{Locked}
-use Rattle.acts_core.specs.declared.queues.Queue.{Queue}
-use Rattle.acts_core.specs.History.{after}
-use Rattle.acts_core.specs.State.{IsIn}
+use Rattle.queue_model.specs.declared.rows.RowState.{RowState}
+use Rattle.queue_model.specs.declared.rows.RowState.TheVariants.{Locked}
+use Rattle.queue_model.specs.declared.queues.Queue.{Queue}
+use Rattle.queue_model.specs.History.{after}
+use Rattle.queue_model.specs.State.{IsIn}
 use Rattle.entry_table.specs.declared.view.View.{View}
 use Rattle.entry_table.specs.Views.{caller_of}
-use Rattle.link_core.specs.Layout.{pack_state}
+use Rattle.queue_model.specs.Packing.{pack_state}
 use Rattle.entry_table.specs.Plays.{ShowsState}
 use Rattle.entry_table.proofs.Exchanging.{taken_mine, shown_state, after_done, after_shown}
 use Rattle.entry_table.proofs.entries.Entries.take_at.Goals as goal
