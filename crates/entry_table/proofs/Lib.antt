@@ -17,3 +17,6 @@ pub mod Counting
 pub mod Closing
 pub mod Leaving
 pub mod Exchanging
+pub mod Outs
+pub mod Tailing
+pub mod Giving

@@ -8,6 +8,7 @@ mod depths;
 mod draft;
 mod entries;
 mod freight;
+mod givings;
 mod links;
 mod loads;
 mod pass;
@@ -15,6 +16,7 @@ mod plays;
 mod rest;
 mod splits;
 mod states;
+mod tails;
 mod view;
 
 pub use draft::{Draft, Drawn, Linking};
