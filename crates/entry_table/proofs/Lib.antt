@@ -20,3 +20,4 @@ pub mod Exchanging
 pub mod Outs
 pub mod Tailing
 pub mod Giving
+pub mod Bringing

@@ -121,10 +121,10 @@ module _ (enders : ℕ → ℕ) (row h : ℕ) where
       let both = sym (mine_first h row d ds mine) ∙ none in
       let miss = no_touch row d.act (none_right (last_on row (own h ds)) (if_touches row d.act) both) in
       out_stays (acted q d.caller d.act) ds ender legal.1 all.1 (none_left (last_on row (own h ds)) (if_touches row d.act) both)
-          (out.0, still_mine row q d.caller d.act out.0 legal.0 miss out.1, out.2))
+      (out.0, still_mine row q d.caller d.act out.0 legal.0 miss out.1, out.2))
       (λ (other : d.caller ≢ h).
       out_stays (acted q d.caller d.act) ds ender legal.1 all.1 (sym (others_first h row d ds other) ∙ none)
-          (dequeued_stays enders row h q (d ∷ []) ender (own-other h d other) (legal.0, tt) (all.0, tt) out))
+      (dequeued_stays enders row h q (d ∷ []) ender (own-other h d other) (legal.0, tt) (all.0, tt) out))
       (cases_eq d.caller h)
 
   -- a row that its caller dequeued last is dequeued

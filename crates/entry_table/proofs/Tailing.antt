@@ -82,8 +82,11 @@ module _ {C : Type 0} (load : C → Load) (shape : Shape) where
         w,
         keeps,
         tt,
-        (v.opening, plain load shape s id v h ended is at r [] w words reserved r.enders all (record { shape = refl; opening = refl; callers = refl; made = refl; alone = refl; consumers = refl }) refl refl refl (r.held id v at) refl reached tt (λ j ne. refl) (λ c ne. refl) (subst (AllEnd r.enders) all r.ends)
-        top (set_else s.words i (suc row) 1 (omega arith)) off stands r.cargoes (omega (arith, sums, allowed))),
+        (
+          v.opening,
+          plain load shape s id v h ended is at r [] w words reserved r.enders all (record { shape = refl; opening = refl; callers = refl; made = refl; alone = refl; consumers = refl }) refl refl refl (r.held id v at) refl reached tt (λ j ne. refl) (λ c ne. refl) (subst (AllEnd r.enders) all r.ends)
+              top (set_else s.words i (suc row) 1 (omega arith)) off stands r.cargoes (omega (arith, sums, allowed)),
+        ),
         (refl, went load shape s id v h ended is at r w [] words r.drawer reserved all tt refl (λ j ne. refl) stands (omega arith) (omega (arith, reached, top)), refl),
       ))
       (λ e. miss_owes load shape s id i step m h ended refl is at r)

@@ -9,6 +9,7 @@ mod draft;
 mod entries;
 mod freight;
 mod givings;
+mod homes;
 mod links;
 mod loads;
 mod pass;
