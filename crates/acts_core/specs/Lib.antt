@@ -1,1 +1,16 @@
 pub mod Load
+pub mod Owed
+pub mod Sight
+pub mod Calls
+pub mod Moments
+pub mod Lists
+pub mod Held
+pub mod Meaning
+pub mod Asked
+pub mod Chains
+pub mod Hands
+pub mod Replies
+pub mod Kept
+pub mod Serves
+pub mod Rest
+pub mod Laws

@@ -2,7 +2,7 @@
 ghost use Rattle.std.specs.Prelude.{◌≡◌, ◌≤◌, length};
 ghost use Rattle.acts_core.specs.Load.{Load};
 
-use queue_model::RowState;
+use queue_model::{RowState, Slip};
 
 /// What a queue keeps for a message and hands to the holder of its row.
 pub trait Cargo: Send + Drop {
@@ -23,6 +23,47 @@ pub trait Cargo: Send + Drop {
 
     /// A content is never longer than its message's encoding.
     ghost content_fits: { (cargo : Self) → length (load cargo).content ≤ (load cargo).size };
+}
+
+/// A cargo as code sees it that does not send it to a thread: `Cargo` without its word on threads. Each
+/// cargo is freight. A call that is made of others may speak of freight alone where one on cargo could not
+/// be proved.
+pub trait Freight: Drop {
+    /// What contracts see of it.
+    ghost goods: { Self → Load };
+
+    /// The id of the message.
+    fn ident(&self) -> u64
+        ensures { result ≡ (goods self.now).id };
+
+    /// The number of bytes of the message's encoding.
+    fn weight(&self) -> u64
+        ensures { result ≡ (goods self.now).size };
+
+    /// The number of the message's deliveries.
+    fn deliveries(&self) -> u32
+        ensures { result ≡ (goods self.now).count };
+
+    /// A content is never longer than its message's encoding.
+    ghost goods_fit: { (freight : Self) → length (goods freight).content ≤ (goods freight).size };
+}
+
+impl<C: Cargo> Freight for C {
+    ghost goods = { C.load };
+
+    fn ident(&self) -> u64 {
+        self.id()
+    }
+
+    fn weight(&self) -> u64 {
+        self.size()
+    }
+
+    fn deliveries(&self) -> u32 {
+        self.count()
+    }
+
+    ghost goods_fit = { C.content_fits };
 }
 
 /// The answer to a put.
@@ -76,4 +117,24 @@ pub enum Stealing<C> {
     NotStealable(RowState),
     /// The row was unlocked by someone, and had changed to this state when it was to be taken.
     Moved(RowState),
+}
+
+/// An entry that is left of a queue at its end.
+#[derive(Debug, Drop)]
+pub struct RestEntry<C> {
+    pub slip: Slip,
+    /// Available, or left by a caller.
+    pub state: RowState,
+    /// On a last-value queue, whether a later entry of the same key has come; false on the others.
+    pub outdated: bool,
+    pub cargo: C,
+}
+
+/// Where a transaction stands that was stored in the journal.
+#[derive(Clone, Copy, Debug, PartialEq, Eq)]
+pub struct Receipt {
+    /// The number of transactions that were submitted before it in this session.
+    pub ticket: u64,
+    /// The place of its first byte in the journal.
+    pub at: u64,
 }

@@ -29,7 +29,7 @@ use Rattle.queue_model.specs.Table.{Can, acted, changed, in_state, left_in}
 use Rattle.queue_model.proofs.Depths.{depth_kept}
 use Rattle.queue_model.proofs.Histories.{own-mine}
 use Rattle.queue_model.proofs.Owns.{own_acquired, own_locked, own_stolen}
-use Rattle.link_core.specs.Layout.{draft_of}
+use Rattle.link_core.specs.Layout.{state_of, draft_of}
 use Rattle.queue_model.specs.Packing.{pack_state}
 use Rattle.link_core.specs.Stands.{Stands}
 use Rattle.link_core.specs.Steps.{FitsState, GoesFrom, IsPackable, goes_to, act_with, changed_by, reserved_after, size_in}
@@ -43,7 +43,7 @@ use Rattle.entry_table.specs.Views.{Has, caller_of, takes_of, EndsBy, AllEnd}
 use Rattle.entry_table.specs.Rule.{table_at, Carries, Full, Bare, Cargoes, Lies, Each, Takes, Holds, Away, RuledAt, Ruled, allowance, share}
 use Rattle.entry_table.specs.Plays.{by_me, Went, changed_view, DidChange, took, freed, ended, looked, TakesOut, IsEnding}
 use Rattle.entry_table.proofs.Frames.{views_set, sum_views, drafts_set, takes_set, away_set}
-use Rattle.entry_table.proofs.Keeping.{Same, opened, now, me, has_me, knows_me, held_now, sees_all, ruled_next, went, mine_alone}
+use Rattle.entry_table.proofs.Keeping.{Same, opened, now, me, drawn_low, has_me, knows_me, held_now, sees_all, ruled_next, went, mine_alone}
 use Rattle.entry_table.proofs.Looking.{Owes, miss_owes, by_found}
 use Rattle.entry_table.proofs.Reserving.{ends_more}
 use Rattle.entry_table.proofs.Slots.{out_to, takes_more, away_more, takes_back, away_back}
@@ -239,18 +239,18 @@ module _ {C : Type 0} (load : C → Load) (shape : Shape) where
     a = act_with count change row
 
     -- what any change makes of the rule
-    pub state_rule : (w : View) (homes : List (maybe.Option (Option C))) (outs enders : ℕ → ℕ) → FitsState tab k row change from → slice_index s.words (684 + 7 * row) ≡ pack_state from
+    pub state_rule : (w : View) (homes : List (maybe.Option (Option C))) (outs enders : ℕ → ℕ) → FitsState tab k row change from → slice_index s.words (state_of row) ≡ pack_state from
         → w.seen ≡ r.history ++ by_me v a ∷ [] → Same v w → w.drawn ≡ v.drawn → w.told ≡ [] → w.allowance ≡ v.allowance → w.share ≡ v.share → w.reached ≡ v.reached
         → length homes ≡ shape.rows → AllEnd enders (r.history ++ by_me v a ∷ []) → Cargoes load homes (acted q k a) → Each (Takes homes outs) (set s.views id w) → Holds (acted q k a) id w → Away homes outs (set s.views id w)
-        → RuledAt load shape v.opening record { words = set s.words (684 + 7 * row) (pack_state (goes_to k change)); homes = homes; views = set s.views id w } × Went v w (by_me v a ∷ [])
+        → RuledAt load shape v.opening record { words = set s.words (state_of row) (pack_state (goes_to k change)); homes = homes; views = set s.views id w } × Went v w (by_me v a ∷ [])
     state_rule w homes outs enders fits hit seen same drawn told allowances shares reached rows ends cargoes taking held away =
-        let i : ℕ = 684 + 7 * row in
+        let i : ℕ = state_of row in
         let n : ℕ = pack_state (goes_to k change) in
         let words : List ℕ = set s.words i n in
         let reserved : ℕ → Reservation = but r.reserved k (reserved_after change (r.reserved k) (size_in tab row)) in
         let step = state_step tab q k row count change from r.stands fits hit in
         let stands : Stands (table_at shape words r.drawer reserved) (acted q k a) = step.1 in
-        let off : (j : ℕ) (y : DraftWord) → slice_index words (draft_of j y) ≡ slice_index s.words (draft_of j y) = λ j y. set_else s.words i n (draft_of j y) (omega (arith, draft_low j y, draft_high j y)) in
+        let off : (j : ℕ) (y : DraftWord) → j < shape.rows → slice_index words (draft_of j y) ≡ slice_index s.words (draft_of j y) = λ j y less. set_else s.words i n (draft_of j y) (omega (arith, draft_low j y, draft_high j y)) in
         let top : slice_index words 0 ≡ slice_index s.words 0 = set_else s.words i n 0 (omega arith) in
         let sums = sum_views allowance s.views id v w at in
         let share_sums = sum_views share s.views id v w at in
@@ -270,8 +270,8 @@ module _ {C : Type 0} (load : C → Load) (shape : Shape) where
             callers = set_else s.words i n 1 (omega arith);
             stands = stands;
             cargoes = cargoes;
-            drafts = drafts_set s.words words r.drawer s.views id v w at off drawn same.callers r.drafts;
-            unwritten = λ j y high. off j y ∙ r.unwritten j y (omega (arith, top, high));
+            drafts = drafts_set shape.rows s.words words r.drawer s.views id v w at (drawn_low load shape s id v h ended is at r) off drawn same.callers r.drafts;
+            unwritten = λ j y less high. off j y less ∙ r.unwritten j y less (omega (arith, top, high));
             top = omega (arith, top);
             reaches = omega (arith, top, reached, low);
             takes = taking;
@@ -286,7 +286,7 @@ module _ {C : Type 0} (load : C → Load) (shape : Shape) where
   -- Acq, Lock and Steal
   pub takes_allowed : (slots id row : ℕ) (change : Change) (from : RowState) (m : Me (Option C) View) (h : ℕ) (ended : List ℕ) (x : Row) → m.0.callers ≡ h ∷ ended → m.0.slot ≡ None → TakesOut change → row_at (after m.0.opening m.0.seen) row ≡ Some x
       → GoesFrom (caller_of m.0.callers) change from → IsPackable from
-      → Allows (Ruled load shape) slots id m (684 + 7 * row) (λ n. either (eqb n (pack_state from)) (pack_state (goes_to (caller_of m.0.callers) change)) n) (took load row change from m)
+      → Allows (Ruled load shape) slots id m (state_of row) (λ n. either (eqb n (pack_state from)) (pack_state (goes_to (caller_of m.0.callers) change)) n) (took load row change from m)
   takes_allowed slots id row change from m h ended x is idle out known goes packable s ruled len at low =
       let v : View = m.0 in
       let r = opened load shape s id v h ended is at ruled in
@@ -296,8 +296,8 @@ module _ {C : Type 0} (load : C → Load) (shape : Shape) where
       let t : Table = table_at shape s.words r.drawer r.reserved in
       let fits : FitsState t h' row change from = record { row = node_now load shape s id v h ended is at r (nodes.Row row) (x, known); goes = goes; packable = packable } in
       let w : View = changed_view v row change from (Some row) a' r.history in
-      by_found load shape s id (684 + 7 * row) (pack_state from) (pack_state (goes_to h' change)) m
-      (λ m'. (c : C) × (y : Row) × Carries (load c) y × (m'.1 ≡ (row, Some c) ∷ m.1) × DidChange v m'.0 row change from (Some row) a' y) (looked (steps.State row change from) m (slice_index s.words (684 + 7 * row))) (took load row change from m)
+      by_found load shape s id (state_of row) (pack_state from) (pack_state (goes_to h' change)) m
+      (λ m'. (c : C) × (y : Row) × Carries (load c) y × (m'.1 ≡ (row, Some c) ∷ m.1) × DidChange v m'.0 row change from (Some row) a' y) (looked (steps.State row change from) m (slice_index s.words (state_of row))) (took load row change from m)
       (λ u e told. ((λ hit. told), (λ ne. absurd (ne e))))
       (λ u e told. ((λ hit. absurd (e hit)), (λ ne. told)))
       (λ e.
@@ -314,13 +314,13 @@ module _ {C : Type 0} (load : C → Load) (shape : Shape) where
       (λ j z. let same : row ≡ j = (let o : Some row ≡ Some j = z in cc) in inr (h', has_me load shape s id v h ended is at r, subst (λ (b : ℕ). IsIn (acted q' h' a') b (Locked h')) same (held_out q' h' 0 change row out step.0)))
       (away_more s.homes r.outs s.views id row v w at idle refl r.away) in
       (w, takes row (Some full.0), full.1, (v.opening, p.0), (full.0, y.0, full.2, refl, record { went = p.1; before = r.history; prefix = (knows_me load shape s id v h ended is at r).prefix; found = y.1; state = y.2; view = refl })))
-      (λ e. miss_owes load shape s id (684 + 7 * row) (steps.State row change from) m h ended refl is at r)
+      (λ e. miss_owes load shape s id (state_of row) (steps.State row change from) m h ended refl is at r)
 
   -- Unlock and Rel, by the holder, with the cargo in its slot
   pub frees_allowed : (slots id row count : ℕ) (change : Change) (m : Me (Option C) View) (h : ℕ) (ended : List ℕ) (x : Row) (c : C) → m.0.callers ≡ h ∷ ended → m.0.slot ≡ Some row → m.1 ≡ (row, Some c) ∷ [] → IsHome change
       → row_at (after m.0.opening m.0.seen) row ≡ Some x → x.state ≡ Locked (caller_of m.0.callers) → caller_of m.0.callers < 4294967296
       → Goods (load c) x → (load c).count ≡ count
-      → Allows (Ruled load shape) slots id m (684 + 7 * row) (λ n. either (eqb n (pack_state (Locked (caller_of m.0.callers)))) (pack_state (goes_to (caller_of m.0.callers) change)) n) (freed row change (Locked (caller_of m.0.callers)) count m)
+      → Allows (Ruled load shape) slots id m (state_of row) (λ n. either (eqb n (pack_state (Locked (caller_of m.0.callers)))) (pack_state (goes_to (caller_of m.0.callers) change)) n) (freed row change (Locked (caller_of m.0.callers)) count m)
   frees_allowed slots id row count change m h ended x c is out carried home known held small goods count_is s ruled len at low =
       let v : View = m.0 in
       let r = opened load shape s id v h ended is at ruled in
@@ -334,11 +334,11 @@ module _ {C : Type 0} (load : C → Load) (shape : Shape) where
       let both : Some still.0 ≡ Some there.0 = sym still.1 ∙ there.1 in
       let one : still.0 ≡ there.0 = cc in
       let fits : FitsState t h' row change from = record { row = node_now load shape s id v h ended is at r (nodes.Row row) (x, known); goes = goes_home h' change home; packable = omega (arith, small) } in
-      let word : slice_index s.words (684 + 7 * row) ≡ pack_state from = r.stands.states row still.0 still.1 ∙ ap pack_state still.2 in
+      let word : slice_index s.words (state_of row) ≡ pack_state from = r.stands.states row still.0 still.1 ∙ ap pack_state still.2 in
       let w : View = changed_view v row change from None a' r.history in
       let f : Row → Row = left_in (goes_to h' change) count in
-      by_found load shape s id (684 + 7 * row) (pack_state from) (pack_state (goes_to h' change)) m
-      (λ m'. (y : Row) × (m'.1 ≡ rest m.1) × DidChange v m'.0 row change from None a' y) (looked (steps.State row change from) m (slice_index s.words (684 + 7 * row))) (freed row change from count m)
+      by_found load shape s id (state_of row) (pack_state from) (pack_state (goes_to h' change)) m
+      (λ m'. (y : Row) × (m'.1 ≡ rest m.1) × DidChange v m'.0 row change from None a' y) (looked (steps.State row change from) m (slice_index s.words (state_of row))) (freed row change from count m)
       (λ u e told. (e, told))
       (λ u e told. absurd (e word))
       (λ e.
@@ -363,7 +363,7 @@ module _ {C : Type 0} (load : C → Load) (shape : Shape) where
         w,
         gives,
         tt,
-        (v.opening, subst (λ (l : List (ℕ × Option C)). RuledAt load shape v.opening record { words = set s.words (684 + 7 * row) (pack_state (goes_to h' change)); homes = put_back s.homes l; views = set s.views id w }) (sym carried) p.0),
+        (v.opening, subst (λ (l : List (ℕ × Option C)). RuledAt load shape v.opening record { words = set s.words (state_of row) (pack_state (goes_to h' change)); homes = put_back s.homes l; views = set s.views id w }) (sym carried) p.0),
         (still.0, refl, record { went = p.1; before = r.history; prefix = (knows_me load shape s id v h ended is at r).prefix; found = still.1; state = still.2; view = refl }),
       ))
       (λ e. absurd (e word))
@@ -371,7 +371,7 @@ module _ {C : Type 0} (load : C → Load) (shape : Shape) where
   -- Deq and Del
   pub ends_allowed : (slots id row : ℕ) (change : Change) (from : RowState) (m : Me (Option C) View) (h : ℕ) (ended' : List ℕ) (x : Row) → m.0.callers ≡ h ∷ ended' → m.0.slot ≡ None → IsEnding change m.0 row → row_at (after m.0.opening m.0.seen) row ≡ Some x
       → GoesFrom (caller_of m.0.callers) change from → IsPackable from
-      → Allows (Ruled load shape) slots id m (684 + 7 * row) (λ n. either (eqb n (pack_state from)) (pack_state (goes_to (caller_of m.0.callers) change)) n) (ended row change from m)
+      → Allows (Ruled load shape) slots id m (state_of row) (λ n. either (eqb n (pack_state from)) (pack_state (goes_to (caller_of m.0.callers) change)) n) (ended row change from m)
   ends_allowed slots id row change from m h ended' x is idle ending known goes packable s ruled len at low =
       let v : View = m.0 in
       let r = opened load shape s id v h ended' is at ruled in
@@ -381,8 +381,8 @@ module _ {C : Type 0} (load : C → Load) (shape : Shape) where
       let t : Table = table_at shape s.words r.drawer r.reserved in
       let fits : FitsState t h' row change from = record { row = node_now load shape s id v h ended' is at r (nodes.Row row) (x, known); goes = goes; packable = packable } in
       let w : View = changed_view v row change from None a' r.history in
-      by_found load shape s id (684 + 7 * row) (pack_state from) (pack_state (goes_to h' change)) m
-      (λ m'. (y : Row) × (m'.1 ≡ m.1) × DidChange v m'.0 row change from None a' y) (looked (steps.State row change from) m (slice_index s.words (684 + 7 * row))) (ended row change from m)
+      by_found load shape s id (state_of row) (pack_state from) (pack_state (goes_to h' change)) m
+      (λ m'. (y : Row) × (m'.1 ≡ m.1) × DidChange v m'.0 row change from None a' y) (looked (steps.State row change from) m (slice_index s.words (state_of row))) (ended row change from m)
       (λ u e told. ((λ hit. told), (λ ne. absurd (ne e))))
       (λ u e told. ((λ hit. absurd (e hit)), (λ ne. told)))
       (λ e.
@@ -396,4 +396,4 @@ module _ {C : Type 0} (load : C → Load) (shape : Shape) where
       (λ j z. let o : None ≡ Some j = z in absurd (cc))
       (λ j z. away_set s.views id v w (r.outs j) j at (sym idle) (r.away j z)) in
       (w, keeps, tt, (v.opening, p.0), (y.0, refl, record { went = p.1; before = r.history; prefix = (knows_me load shape s id v h ended' is at r).prefix; found = y.1; state = y.2; view = refl })))
-      (λ e. miss_owes load shape s id (684 + 7 * row) (steps.State row change from) m h ended' refl is at r)
+      (λ e. miss_owes load shape s id (state_of row) (steps.State row change from) m h ended' refl is at r)

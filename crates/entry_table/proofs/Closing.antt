@@ -15,11 +15,10 @@ use Rattle.acts_core.specs.Load.{Load}
 use Rattle.queue_model.specs.Sound.{same_number}
 use Rattle.queue_model.specs.State.{row_at, rows_of, is_row, is_of_list, place_at}
 use Rattle.queue_model.proofs.KeyedLemmas.{find-here, find-past, find_none-head, find_none-tail, apart-filter, find_none-filter}
-use Rattle.link_core.specs.Layout.{link_of}
+use Rattle.link_core.specs.Layout.{row_link_of, state_of, head_of}
 use Rattle.queue_model.specs.Packing.{pack_state}
 use Rattle.link_core.specs.Stands.{Stands, Chain, Points}
 use Rattle.link_core.specs.Table.{Table}
-use Rattle.queue_model.specs.declared.steps.Node.TheVariants as nodes
 use Rattle.entry_table.specs.Rule.{Carries}
 use Rattle.entry_table.specs.Resting.{is_live, live, rests, Keyless, Legible, IsRest, AreRests, Waits, AllWait, Rested, Walking, IsFor}
 use Rattle.entry_table.specs.declared.rest.RestEntry.{RestEntry}
@@ -86,7 +85,7 @@ pub record Jump (words : List ℕ) (w : ℕ) (P : Row → Type 0) (xs : List Row
   pub rest : List Row
   pub names : w ≡ suc x.number
   pub same : live xs ≡ live (x ∷ rest)
-  pub chain : Chain words (slice_index words (link_of (nodes.Row x.number))) rest
+  pub chain : Chain words (slice_index words (row_link_of x.number)) rest
   pub here : P x × AllByRecursion P rest
   pub few : length rest < length xs
 
@@ -105,7 +104,7 @@ jump words w P [] ne all c = absurd (ne c)
 jump words w P (x ∷ xs) ne all c = ⊎_elim
     (λ (e : w ≡ suc x.number). record { x = x; rest = xs; names = e; same = refl; chain = c.1; here = all; few = omega arith })
     (λ (t : (x.state ≡ Deleted) × (w ≢ 0) × Points w xs).
-    let j = jump words w P xs ne all.1 (rechained words w (slice_index words (link_of (nodes.Row x.number))) xs t.2 c.1) in
+    let j = jump words w P xs ne all.1 (rechained words w (slice_index words (row_link_of x.number)) xs t.2 c.1) in
     let few = j.few in record { x = j.x; rest = j.rest; names = j.names; same = live_gone x xs t.0 ∙ j.same; chain = j.chain; here = j.here; few = omega (arith, few) })
     c.0
 
@@ -146,11 +145,11 @@ module _ {C : Type 0} (load : C → Load) where
       pub found : row_at q x.number ≡ Some x
       pub list : x.slip.list ≡ l
       pub low : x.number < rows
-      pub word : slice_index words (684 + 7 * x.number) ≡ pack_state x.state
+      pub word : slice_index words (state_of x.number) ≡ pack_state x.state
       pub some_left : 0 < left
       pub room : is_live x.state ≡ true → length es < length (rests q.lists q)
-      pub gone : x.state ≡ Deleted → Walking load words q l (slice_index words (683 + 7 * x.number)) (left - 1) es parcels
-      pub taken : is_live x.state ≡ true → Waits load parcels x × ((e : RestEntry C) → IsRest load e x → Walking load words q l (slice_index words (683 + 7 * x.number)) (left - 1) (es ++ e ∷ []) (set parcels x.number None))
+      pub gone : x.state ≡ Deleted → Walking load words q l (slice_index words (row_link_of x.number)) (left - 1) es parcels
+      pub taken : is_live x.state ≡ true → Waits load parcels x × ((e : RestEntry C) → IsRest load e x → Walking load words q l (slice_index words (row_link_of x.number)) (left - 1) (es ++ e ∷ []) (set parcels x.number None))
 
     pub faces : Walking load words q l link left es parcels → link ≢ 0 → Facing
     faces w ne =
@@ -230,7 +229,7 @@ module _ {C : Type 0} (load : C → Load) where
       (cases_Bool (p x))
 
   pub walk_begins : (words : List ℕ) (rows : ℕ) (q : Queue) (l : ℕ) (es : List (RestEntry C)) (parcels : List (Option C)) → Legible words rows q → l < q.lists → Rested load q (suc l) es parcels
-      → Walking load words q l (slice_index words (3 + l)) rows es parcels
+      → Walking load words q l (slice_index words (head_of rows l)) rows es parcels
   walk_begins words rows q l es parcels stands low r =
       let mine : AllByRecursion (λ x. row_at q x.number ≡ Some x) q.rows = all_found q.rows q.rows stands.apart (λ x e. e) stands.apart in
       let few = stands.few in let shorter = length_filter (is_of_list l) q.rows in

@@ -91,13 +91,13 @@ module _ {C : Type 0} (load : C → Load) (shape : Shape) where
                 subst (λ (y : Drawing). IsDraft words drawer w i y) is_blank (subst (λ (y : ℕ). IsDraft words drawer w y (blank_drawing t)) same (record {
                   mine = has_me load shape s id v h ended is at r;
                   drew = but_here r.drawer t (Some k);
-                  written = λ y. off t y ∙ r.unwritten t y (omega arith) ∙ sym (blank_word t y);
+                  written = λ y. off t y ∙ r.unwritten t y less (omega arith) ∙ sym (blank_word t y);
                 })))
                 (λ (miss : t ≢ i).
                 let x = r.drafts id v at i d (sym (find-past (is_drawing i) (blank_drawing t) v.drawn (ne_eqb t i miss)) ∙ found) in
                 record { mine = x.mine; drew = but_else r.drawer t (Some k) i (λ e. miss (sym e)) ∙ x.drew; written = λ y. off i y ∙ x.written y })
                 (cases_eq t i));
-            unwritten = λ i x high. off i x ∙ r.unwritten i x (omega (arith, up, high));
+            unwritten = λ i x few high. off i x ∙ r.unwritten i x few (omega (arith, up, high));
             top = omega (arith, up);
             reaches = omega (arith, up);
             takes = takes_set s.homes r.outs s.views id v w at refl r.takes;
@@ -234,7 +234,7 @@ module _ {C : Type 0} (load : C → Load) (shape : Shape) where
                 ne_eqb y.row k (λ g. miss (sym g ∙ ap (λ (f : Drawing). f.row) (sym e) ∙ row_stored word value d ∙ eqb-true d.row row (find_passes (is_drawing row) v.drawn d drawing))))) ∙ found in
                 let x = r.drafts id v at k d' before in record { mine = x.mine; drew = x.drew; written = λ y. off k y miss ∙ x.written y })
                 (cases_eq k row));
-            unwritten = λ j x high. off j x (omega (arith, same_top, high, under)) ∙ r.unwritten j x (omega (arith, same_top, high));
+            unwritten = λ j x few high. off j x (omega (arith, same_top, high, under)) ∙ r.unwritten j x few (omega (arith, same_top, high));
             top = omega (arith, same_top);
             reaches = omega (arith, same_top, reached);
             takes = takes_set s.homes r.outs s.views id v w at refl r.takes;

@@ -33,7 +33,7 @@ use Rattle.queue_model.proofs.Owns.{own_enqueued}
 use Rattle.queue_model.proofs.RowFacts.{row_push_other}
 use Rattle.queue_model.proofs.SoundSteps.{list_found}
 use Rattle.queue_model.proofs.Stable.{row_stays, list_stays, place_stays, new_step}
-use Rattle.link_core.specs.Layout.{link_of, draft_of}
+use Rattle.link_core.specs.Layout.{draft_of, link_of}
 use Rattle.link_core.specs.Stands.{Stands}
 use Rattle.link_core.specs.Steps.{FitsLink, enqueue_with, changed_by, slip_in, size_in, place_behind}
 use Rattle.link_core.specs.Table.{Table, but, IsNode, list_of_node}
@@ -89,9 +89,9 @@ module _ (q : Queue) (h r : ℕ) (slip : Slip) (content origin : List ℕ) (n : 
   none_entered k e = ((λ same. let bad : None ≡ Some (entered r slip content origin n) = sym e ∙ ap (row_at (acted q h (acts.Enq r slip content origin n))) same ∙ own_enqueued q h r slip content origin n can in absurd (cc)), new_step q h (acts.Enq r slip content origin n) k e)
 
 -- the link of a node is no draft word, and none of the first two words
-link_off : (t : Table) (q : Queue) (node : Node) → Stands t q → IsNode t node → (link_of node ≢ 0) × (link_of node ≢ 1) × ((k : ℕ) (x : DraftWord) → draft_of k x ≢ link_of node)
-link_off t q (nodes.Head l) s low = let few = s.shaped.few_lists in let lt : l < t.lists = low in (omega arith, omega arith, λ k x. omega (arith, few, lt, draft_low k x))
-link_off t q (nodes.Row a) s linked = (omega arith, omega arith, λ k x. omega (arith, draft_low k x, draft_high k x))
+link_off : (t : Table) (q : Queue) (node : Node) → Stands t q → IsNode t node → (link_of t.rows node ≢ 0) × (link_of t.rows node ≢ 1) × ((k : ℕ) (x : DraftWord) → k < t.rows → draft_of k x ≢ link_of t.rows node)
+link_off t q (nodes.Head l) s low = (omega arith, omega arith, λ k x less. omega (arith, draft_high k x))
+link_off t q (nodes.Row a) s linked = (omega arith, omega arith, λ k x less. omega (arith, draft_low k x, draft_high k x))
 
 module _ {C : Type 0} (load : C → Load) (shape : Shape) where
   -- the cargo of the new row comes home
@@ -187,15 +187,15 @@ module _ {C : Type 0} (load : C → Load) (shape : Shape) where
         λ i. record { id = x.written drafts.Ident i; size = x.written drafts.Size i; mask = x.written drafts.Mask i; list = x.written drafts.List i; key = None }
 
     -- the rule after a link
-    linked_rule : (row : ℕ) (d : Drawing) (node : Node) (c : C) → drawing_at v row ≡ Some d → v.slot ≡ Some row → Linkable known (caller_of v.callers) d node → (load c).id ≡ d.ident → (load c).size ≡ d.size → slice_index s.words (link_of node) ≡ 0
-        → RuledAt load shape v.opening record { words = set s.words (link_of node) (suc row); homes = set s.homes row (maybe.some (Some c)); views = set s.views id (linked_view v row node (enters row d (load c)) r.history) }
+    linked_rule : (row : ℕ) (d : Drawing) (node : Node) (c : C) → drawing_at v row ≡ Some d → v.slot ≡ Some row → Linkable known (caller_of v.callers) d node → (load c).id ≡ d.ident → (load c).size ≡ d.size → slice_index s.words (link_of shape.rows node) ≡ 0
+        → RuledAt load shape v.opening record { words = set s.words (link_of shape.rows node) (suc row); homes = set s.homes row (maybe.some (Some c)); views = set s.views id (linked_view v row node (enters row d (load c)) r.history) }
         × DidLink v (linked_view v row node (enters row d (load c)) r.history) row node (enters row d (load c))
     linked_rule row d node c drawing out l same_id same_size empty =
         let k : ℕ = me load shape s id v h ended is at r in
         let H : List Deed = r.history in
         let a : Act = enters row d (load c) in
         let w : View = linked_view v row node a H in
-        let i : ℕ = link_of node in
+        let i : ℕ = link_of shape.rows node in
         let words : List ℕ = set s.words i (suc row) in
         let homes : List (maybe.Option (Option C)) = set s.homes row (maybe.some (Some c)) in
         let fits = links_fit row d node drawing l in
@@ -213,7 +213,8 @@ module _ {C : Type 0} (load : C → Load) (shape : Shape) where
         let same_depth = depth_kept q k a both.0 tt in
         let depth_is : entries (acted q k a) ≡ entries q = same_depth.0 in
         let top : slice_index words 0 ≡ slice_index s.words 0 = set_else s.words i (suc row) 0 (λ e. off.0 (sym e)) in
-        let words_off : (j : ℕ) (y : DraftWord) → slice_index words (draft_of j y) ≡ slice_index s.words (draft_of j y) = λ j y. set_else s.words i (suc row) (draft_of j y) (off.2 j y) in
+        let words_off : (j : ℕ) (y : DraftWord) → j < shape.rows → slice_index words (draft_of j y) ≡ slice_index s.words (draft_of j y) = λ j y less. set_else s.words i (suc row) (draft_of j y) (off.2 j y less) in
+        let drawn_low : (j g : ℕ) → r.drawer j ≡ Some g → j < shape.rows = λ j g e. let under = r.stands.draws.low j g e in let tops = r.stands.draws.top in omega (arith, under, tops) in
         let reached : v.reached ≤ slice_index s.words 0 = r.reaches id v at in (
           ruled_next load shape s id v h ended is at r (by_me v a ∷ []) w words homes drawer reserved r.outs r.enders record {
             seen = sees_all load shape s id v h ended is at r (by_me v a ∷ []) w refl;
@@ -229,14 +230,14 @@ module _ {C : Type 0} (load : C → Load) (shape : Shape) where
             cargoes = cargoes_entered s.homes q k row (slip_of d) c both.0 less same_id same_size refl r.cargoes;
             drafts = views_set (Drafted words drawer) s.views id w
                 (λ j u ne e b y found. let z = r.drafts j u e b y found in let apart = other_draft load shape s id v h ended is at r row x.drew j u ne e b y found in
-                record { mine = z.mine; drew = but_else r.drawer row None b apart ∙ z.drew; written = λ o. words_off b o ∙ z.written o })
+                record { mine = z.mine; drew = but_else r.drawer row None b apart ∙ z.drew; written = λ o. words_off b o (drawn_low b (caller_of u.callers) z.drew) ∙ z.written o })
                 (λ b y found. ⊎_elim
                 (λ (hit : b ≡ row). let gone : None ≡ Some y = sym (find-filter_not (is_drawing row) v.drawn) ∙ ap (drawing_at w) (sym hit) ∙ found in absurd (cc))
                 (λ (miss : b ≢ row).
                 let before : drawing_at v b ≡ Some y = sym (find-filter_other (is_drawing b) (λ f. not (is_drawing row f)) v.drawn (λ f hit. ap not (ne_eqb f.row row (λ g. miss (sym (eqb-true f.row b hit) ∙ g))))) ∙ found in
-                let z = r.drafts id v at b y before in record { mine = z.mine; drew = but_else r.drawer row None b miss ∙ z.drew; written = λ o. words_off b o ∙ z.written o })
+                let z = r.drafts id v at b y before in record { mine = z.mine; drew = but_else r.drawer row None b miss ∙ z.drew; written = λ o. words_off b o (drawn_low b (caller_of v.callers) z.drew) ∙ z.written o })
                 (cases_eq b row));
-            unwritten = λ j y high. words_off j y ∙ r.unwritten j y (omega (arith, top, high));
+            unwritten = λ j y less high. words_off j y less ∙ r.unwritten j y less (omega (arith, top, high));
             top = omega (arith, top);
             reaches = omega (arith, top, reached);
             takes = takes_back s.homes r.outs s.views id row v w (Some c) at out refl r.takes;
@@ -255,11 +256,11 @@ module _ {C : Type 0} (load : C → Load) (shape : Shape) where
 
   pub links_allowed : (slots id row : ℕ) (d : Drawing) (node : Node) (c : C) (m : Me (Option C) View) (h : ℕ) (ended : List ℕ) → m.0.callers ≡ h ∷ ended → m.0.slot ≡ Some row → m.1 ≡ (row, Some c) ∷ [] → drawing_at m.0 row ≡ Some d
       → Linkable (after m.0.opening m.0.seen) (caller_of m.0.callers) d node → (load c).id ≡ d.ident → (load c).size ≡ d.size
-      → Allows (Ruled load shape) slots id m (link_of node) (λ n. either (eqb n 0) (suc row) n) (linked row node (enters row d (load c)) m)
+      → Allows (Ruled load shape) slots id m (link_of shape.rows node) (λ n. either (eqb n 0) (suc row) n) (linked row node (enters row d (load c)) m)
   links_allowed slots id row d node c m h ended is out carried drawing l same_id same_size s ruled len at low =
       let v : View = m.0 in
       let r = opened load shape s id v h ended is at ruled in
-      let i : ℕ = link_of node in
+      let i : ℕ = link_of shape.rows node in
       let a : Act = enters row d (load c) in
       let w : View = linked_view v row node a r.history in
       by_found load shape s id i 0 (suc row) m (λ m'. (m'.1 ≡ rest m.1) × DidLink m.0 m'.0 row node a) (looked (steps.Link row node) m (slice_index s.words i)) (linked row node a m)
@@ -276,7 +277,7 @@ module _ {C : Type 0} (load : C → Load) (shape : Shape) where
   -- the same, told by the view and the slot
   pub links_told : (slots id row : ℕ) (d : Drawing) (node : Node) (c : C) (m : Me (Option C) View) (h : ℕ) (ended : List ℕ) → m.0.callers ≡ h ∷ ended → m.0.slot ≡ Some row → m.1 ≡ (row, Some c) ∷ [] → drawing_at m.0 row ≡ Some d
       → Linkable (after m.0.opening m.0.seen) (caller_of m.0.callers) d node → (load c).id ≡ d.ident → (load c).size ≡ d.size
-      → Allows (Ruled load shape) slots id m (link_of node) (λ n. either (eqb n 0) (suc row) n) (linking load row node m)
+      → Allows (Ruled load shape) slots id m (link_of shape.rows node) (λ n. either (eqb n 0) (suc row) n) (linking load row node m)
   links_told slots id row d node c m h ended is out carried drawing l same_id same_size s ruled len at low =
       let o = links_allowed slots id row d node c m h ended is out carried drawing l same_id same_size s ruled len at low in (
         o.0,
@@ -287,11 +288,11 @@ module _ {C : Type 0} (load : C → Load) (shape : Shape) where
             let de : Some d ≡ Some d' = sym drawing ∙ drawing' in let d_same : d ≡ d' = cc in
             let ce : (row, Some c) ∷ [] ≡ (row, Some c') ∷ [] = sym carried ∙ carried' in
             let ce' : Some c ≡ Some c' = ap (slot_of c) ce in let c_same : c ≡ c' = cc in
-            subst (λ (a : Act). linked row node a m (slice_index s.words (link_of node)) (o.0, carried_after m.1 o.1)) (λ i. enters row (d_same i) (load (c_same i))) o.4,
+            subst (λ (a : Act). linked row node a m (slice_index s.words (link_of shape.rows node)) (o.0, carried_after m.1 o.1)) (λ i. enters row (d_same i) (load (c_same i))) o.4,
       )
 
   -- the same, for numbers that are given by equations
-  pub links_at : (slots id i row new k : ℕ) (node b : Node) (m : Me (Option C) View) (h : ℕ) (ended : List ℕ) → i ≡ link_of node → new ≡ suc row → k ≡ row → b ≡ node → m.0.callers ≡ h ∷ ended → LinkReady load m h row node
+  pub links_at : (slots id i row new k : ℕ) (node b : Node) (m : Me (Option C) View) (h : ℕ) (ended : List ℕ) → i ≡ link_of shape.rows node → new ≡ suc row → k ≡ row → b ≡ node → m.0.callers ≡ h ∷ ended → LinkReady load m h row node
       → Allows (Ruled load shape) slots id m i (λ n. either (eqb n 0) new n) (linking load k b m)
   links_at slots id i row new k node b m h ended ei en ek eb is ready =
       subst (λ (z : Node). Allows (Ruled load shape) slots id m i (λ n. either (eqb n 0) new n) (linking load k z m)) (sym eb)

@@ -16,6 +16,7 @@ use Rattle.acts_core.specs.Load.{Load}
 use Rattle.queue_model.specs.State.{row_at, IsIn}
 use Rattle.queue_model.proofs.Histories.{after-append, legal_rest}
 use Rattle.queue_model.proofs.Stable.{row_stays, held_stays, same_state}
+use Rattle.link_core.specs.Layout.{state_of}
 use Rattle.entry_table.proofs.Joining.{idle_since, is_later, after_went, went_same}
 use Rattle.queue_model.specs.Packing.{pack_state}
 use Rattle.link_core.specs.Steps.{GoesFrom, IsPackable, goes_to, act_with}
@@ -66,7 +67,7 @@ shown_state v w row n change from x known miss went shows is =
 
 module _ {C : Type 0} (load : C → Load) (shape : Shape) where
   -- the exchange, by the words of the states
-  pub takes_at : (slots id i old new row target caller : ℕ) (change picked : Change) (from before : RowState) (m : Me (Option C) View) (ended : List ℕ) (x : Row) → i ≡ 684 + 7 * row → old ≡ pack_state from → new ≡ pack_state (Locked caller)
+  pub takes_at : (slots id i old new row target caller : ℕ) (change picked : Change) (from before : RowState) (m : Me (Option C) View) (ended : List ℕ) (x : Row) → i ≡ state_of row → old ≡ pack_state from → new ≡ pack_state (Locked caller)
       → target ≡ row → picked ≡ change → before ≡ from → m.0.callers ≡ caller ∷ ended → m.0.slot ≡ None → TakesOut change → row_at (after m.0.opening m.0.seen) row ≡ Some x → GoesFrom caller change from → IsPackable from
       → Allows (Ruled load shape) slots id m i (λ n. either (eqb n old) new n) (took load target picked before m)
   takes_at slots id i old new row target caller change picked from before m ended x ei eo en et ep eb is idle out known goes packable =
@@ -105,7 +106,7 @@ held_shows v w row change s held x =
     x.other (same_state (after v.opening w.seen) row s (Locked k) x.state still)
 
 module _ {C : Type 0} (load : C → Load) (shape : Shape) where
-  pub ends_at : (slots id i old new row target caller : ℕ) (change picked : Change) (from before to : RowState) (m : Me (Option C) View) (others : List ℕ) (x : Row) → i ≡ 684 + 7 * row → old ≡ pack_state from → new ≡ pack_state to
+  pub ends_at : (slots id i old new row target caller : ℕ) (change picked : Change) (from before to : RowState) (m : Me (Option C) View) (others : List ℕ) (x : Row) → i ≡ state_of row → old ≡ pack_state from → new ≡ pack_state to
       → goes_to caller change ≡ to → target ≡ row → picked ≡ change → before ≡ from → m.0.callers ≡ caller ∷ others → m.0.slot ≡ None → IsEnding change m.0 row → row_at (after m.0.opening m.0.seen) row ≡ Some x → GoesFrom caller change from → IsPackable from
       → Allows (Ruled load shape) slots id m i (λ n. either (eqb n old) new n) (ended target picked before m)
   ends_at slots id i old new row target caller change picked from before to m others x ei eo en eg et ep eb is idle ending known goes packable =

@@ -111,16 +111,16 @@ tells_set shape O H ds seats owners callers consumers views id w idle silent kno
 -- Drafts
 
 -- the words of drafts are written by their drawers alone: other words may change
-pub drafts_set : (words words' : List ℕ) (drawer : ℕ → Option ℕ) (views : List View) (id : ℕ) (v w : View) → get_elem? views id ≡ some v → ((r : ℕ) (x : DraftWord) → slice_index words' (draft_of r x) ≡ slice_index words (draft_of r x)) → w.drawn ≡ v.drawn → w.callers ≡ v.callers
+pub drafts_set : (rows : ℕ) (words words' : List ℕ) (drawer : ℕ → Option ℕ) (views : List View) (id : ℕ) (v w : View) → get_elem? views id ≡ some v → ((r h : ℕ) → drawer r ≡ Some h → r < rows) → ((r : ℕ) (x : DraftWord) → r < rows → slice_index words' (draft_of r x) ≡ slice_index words (draft_of r x)) → w.drawn ≡ v.drawn → w.callers ≡ v.callers
     → Each (Drafted words drawer) views → Each (Drafted words' drawer) (set views id w)
-drafts_set words words' drawer views id v w at off same callers each = views_set (Drafted words' drawer) views id w
-    (λ j u ne e r d found. let t = each j u e r d found in record { mine = t.mine; drew = t.drew; written = λ x. off r x ∙ t.written x })
+drafts_set rows words words' drawer views id v w at low off same callers each = views_set (Drafted words' drawer) views id w
+    (λ j u ne e r d found. let t = each j u e r d found in record { mine = t.mine; drew = t.drew; written = λ x. off r x (low r (caller_of u.callers) t.drew) ∙ t.written x })
     (λ r d found.
     let t = each id v at r d (subst (λ (l : List Drawing). find (is_drawing r) l ≡ Some d) same found) in
     record {
       mine = subst (λ (l : List ℕ). Has (caller_of l) l) (sym callers) t.mine;
       drew = t.drew ∙ ap (λ (l : List ℕ). Some (caller_of l)) (sym callers);
-      written = λ x. off r x ∙ t.written x;
+      written = λ x. off r x (low r (caller_of v.callers) t.drew) ∙ t.written x;
     })
 
 -- the rows drawn are no fewer

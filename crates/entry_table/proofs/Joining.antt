@@ -20,6 +20,7 @@ use Rattle.queue_model.proofs.Histories.{after-append}
 use Rattle.queue_model.proofs.Owns.{own_rest}
 use Rattle.queue_model.proofs.Prefixes.{prefix_trans}
 use Rattle.queue_model.proofs.Stable.{row_stays, list_stays, place_stays, reserved_stays}
+use Rattle.link_core.specs.Layout.{words_of, link_of}
 use Rattle.entry_table.specs.declared.draft.Draft.{Draft}
 use Rattle.entry_table.specs.declared.draft.Linking.TheVariants as answers
 use Rattle.entry_table.specs.declared.view.Drawing.{Drawing}
@@ -184,9 +185,9 @@ link_miss v w u x draft cargo node n k n' idle some same e went shows is_u is_x 
         }
 
 -- the link of a node that the pass knows is a word of the table
-pub node_low : (shape : Shape) (q : Queue) (node : Node) → Within shape q → IsKnown q node → shape.lists ≤ 10 → Rattle.link_core.specs.Layout.link_of node < Rattle.std.specs.Prelude.◌+◌ 683 (Rattle.std.specs.Prelude.◌*◌ 7 shape.rows)
-node_low shape q (nodes.Head l) w low few = let lt : l < q.lists = low in let same = w.lists in omega arith
-node_low shape q (nodes.Row a) w there few = let lt = w.low a there.0 there.1 in omega arith
+pub node_low : (shape : Shape) (q : Queue) (node : Node) → Within shape q → IsKnown q node → link_of shape.rows node < words_of shape.rows shape.lists
+node_low shape q (nodes.Head l) w low = let lt : l < q.lists = low in let same = w.lists in omega arith
+node_low shape q (nodes.Row a) w there = let lt = w.low a there.0 there.1 in omega arith
 
 -- after a link that another link stopped
 pub record Missed {C : Type 0} (v : View) (m : Me (Option C) View) (h row : ℕ) (c : C) : Type 0 where

@@ -86,6 +86,10 @@ module _ {C : Type 0} (load : C → Load) (shape : Shape) where
     pub after_seen : after (after v.opening v.seen) knows_me.prefix.0 ≡ now
     after_seen = sym (after-append v.opening v.seen knows_me.prefix.0) ∙ ap (after v.opening) knows_me.prefix.1
 
+    -- a row that somebody drew is one of the table
+    pub drawn_low : (j k : ℕ) → r.drawer j ≡ Some k → j < shape.rows
+    drawn_low j k e = let under = r.stands.draws.low j k e in let tops = r.stands.draws.top in omega (arith, under, tops)
+
     legal_more : Legal (after v.opening v.seen) knows_me.prefix.0
     legal_more = legal_rest v.opening v.seen knows_me.prefix.0 (subst (Legal v.opening) (sym knows_me.prefix.1) r.legal)
 
@@ -139,7 +143,7 @@ module _ {C : Type 0} (load : C → Load) (shape : Shape) where
       pub stands : Stands (table_at shape words drawer reserved) (after now ds)
       pub cargoes : Cargoes load homes (after now ds)
       pub drafts : Each (Drafted words drawer) (set s.views id w)
-      pub unwritten : Unwritten words
+      pub unwritten : Unwritten shape.rows words
       pub top : slice_index s.words 0 ≤ slice_index words 0
       pub reaches : w.reached ≤ slice_index words 0
       pub takes : Each (Takes homes outs) (set s.views id w)

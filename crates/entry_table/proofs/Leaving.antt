@@ -124,11 +124,10 @@ module _ {C : Type 0} (load : C → Load) where
         apart = s.sound.rows_apart;
         states = s.states;
         drafted = s.drafted;
-        links = subst (λ (n : ℕ). Rattle.link_core.specs.Stands.Links n words q) s.shaped.lists s.links;
+        links = subst (λ (n : ℕ). Rattle.link_core.specs.Stands.Links shape.rows n words q) s.shaped.lists s.links;
         below = below;
         few = few_rows shape q (record { sound = s.sound; lists = sym s.shaped.lists; consumers = sym s.shaped.consumers; low = below });
         keys = cargoes.keyless;
-        lists = let e = s.shaped.lists in let few = s.shaped.few_lists in omega (arith, e, few);
       }
 
 module _ {C : Type 0} (load : C → Load) (shape : Shape) where

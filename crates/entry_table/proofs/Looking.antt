@@ -27,7 +27,7 @@ use Rattle.entry_table.specs.Views.{caller_of, reached_by, takes_of, AllEnd}
 use Rattle.entry_table.specs.Rule.{table_at, Cargoes, Holds, RuledAt, Ruled, allowance, share}
 use Rattle.entry_table.specs.Plays.{looked, looked_view}
 use Rattle.entry_table.proofs.Frames.{sum_views, drafts_set, takes_set, away_set}
-use Rattle.entry_table.proofs.Keeping.{Same, opened, now, me, sees_all, ruled_next, went}
+use Rattle.entry_table.proofs.Keeping.{Same, opened, now, me, drawn_low, sees_all, ruled_next, went}
 
 -- what a record update leaves
 pub same_self : (v : View) → Same v v
@@ -39,7 +39,7 @@ module _ {C : Type 0} (load : C → Load) (shape : Shape) where
     pub plain : (ds : List Deed) (w : View) (words : List ℕ) (reserved : ℕ → Reservation) (enders : ℕ → ℕ)
         → w.seen ≡ r.history ++ ds → Same v w → w.drawn ≡ v.drawn → w.told ≡ [] → w.slot ≡ v.slot → Holds (after (now load shape s id v h ended is at r) ds) id w → w.share ≡ v.share → w.reached ≤ slice_index s.words 0
         → Legal (now load shape s id v h ended is at r) ds → ((k : ℕ) → me load shape s id v h ended is at r ≢ k → own k ds ≡ []) → ((c : ℕ) → r.owners c ≢ id → takes_of c ds ≡ []) → AllEnd enders (r.history ++ ds)
-        → slice_index words 0 ≡ slice_index s.words 0 → slice_index words 1 ≡ slice_index s.words 1 → ((k : ℕ) (x : DraftWord) → slice_index words (draft_of k x) ≡ slice_index s.words (draft_of k x))
+        → slice_index words 0 ≡ slice_index s.words 0 → slice_index words 1 ≡ slice_index s.words 1 → ((k : ℕ) (x : DraftWord) → k < shape.rows → slice_index words (draft_of k x) ≡ slice_index s.words (draft_of k x))
         → Stands (table_at shape words r.drawer reserved) (after (now load shape s id v h ended is at r) ds) → Cargoes load s.homes (after (now load shape s id v h ended is at r) ds)
         → sum_by allowance (set s.views id w) + entries (after (now load shape s id v h ended is at r) ds) ≤ 524288
         → RuledAt load shape v.opening record { words = words; homes = s.homes; views = set s.views id w }
@@ -58,8 +58,8 @@ module _ {C : Type 0} (load : C → Load) (shape : Shape) where
           callers = callers;
           stands = stands;
           cargoes = cargoes;
-          drafts = drafts_set s.words words r.drawer s.views id v w at drafts drawn same.callers r.drafts;
-          unwritten = λ k x high. drafts k x ∙ r.unwritten k x (subst (λ (t : ℕ). t ≤ k) tops high);
+          drafts = drafts_set shape.rows s.words words r.drawer s.views id v w at (drawn_low load shape s id v h ended is at r) drafts drawn same.callers r.drafts;
+          unwritten = λ k x less high. drafts k x less ∙ r.unwritten k x less (subst (λ (t : ℕ). t ≤ k) tops high);
           top = omega (arith, tops);
           reaches = omega (arith, tops, reached);
           takes = takes_set s.homes r.outs s.views id v w at slot r.takes;
@@ -78,7 +78,7 @@ module _ {C : Type 0} (load : C → Load) (shape : Shape) where
         let allowed : sum_by allowance s.views + entries (after v.opening r.history) ≤ 524288 = r.allowed in
         subst (λ (l : List ℕ). RuledAt load shape v.opening record { words = l; homes = s.homes; views = set s.views id w }) (sym is_same)
         (plain [] w s.words r.reserved r.enders all (record { shape = refl; opening = refl; callers = refl; made = refl; alone = refl; consumers = refl }) refl refl refl (r.held id v at) refl reached tt (λ k ne. refl) (λ c ne. refl) (subst (AllEnd r.enders) all r.ends)
-        refl refl (λ k x. refl) r.stands r.cargoes (omega (arith, sums, allowed)))
+        refl refl (λ k x less. refl) r.stands r.cargoes (omega (arith, sums, allowed)))
 
   -- what a step shows of the rows that were drawn
   pub reached_low : (step : Step) (v : View) (t : Table) → v.reached ≤ top t → (v.reached ≤ reached_by step (shown t step) v.reached) × (reached_by step (shown t step) v.reached ≤ top t)
@@ -105,7 +105,7 @@ module _ {C : Type 0} (load : C → Load) (shape : Shape) where
   Owes s id me i n tells = (w : View) × (a : TableAct (Option C)) × Valid s.homes me.1 a × Ruled load shape (stepped s i n id me.1 w a) × tells (w, carried_after me.1 a)
 
   -- a step that leaves its word as it found it
-  pub miss_owes : (s : State (Option C) View) (id i : ℕ) (step : Step) (me : Me (Option C) View) (h : ℕ) (ended : List ℕ) → i ≡ place_of_step step → me.0.callers ≡ h ∷ ended → get_elem? s.views id ≡ maybe.some me.0 → RuledAt load shape me.0.opening s
+  pub miss_owes : (s : State (Option C) View) (id i : ℕ) (step : Step) (me : Me (Option C) View) (h : ℕ) (ended : List ℕ) → i ≡ place_of_step shape.rows step → me.0.callers ≡ h ∷ ended → get_elem? s.views id ≡ maybe.some me.0 → RuledAt load shape me.0.opening s
       → Owes s id me i (slice_index s.words i) (looked step me (slice_index s.words i))
   miss_owes s id i step me h ended place is at r =
       let all : r.history ≡ r.history ++ [] = sym (append-nil r.history) in
@@ -130,6 +130,6 @@ module _ {C : Type 0} (load : C → Load) (shape : Shape) where
       (λ e. let o = owes_miss e in (o.0, o.1, o.2, o.3, told_miss (o.0, carried_after me.1 o.1) e o.4))
 
   -- a load of any word
-  pub looks_allowed : (slots id i : ℕ) (step : Step) (me : Me (Option C) View) (h : ℕ) (ended : List ℕ) → i ≡ place_of_step step → me.0.callers ≡ h ∷ ended
+  pub looks_allowed : (slots id i : ℕ) (step : Step) (me : Me (Option C) View) (h : ℕ) (ended : List ℕ) → i ≡ place_of_step shape.rows step → me.0.callers ≡ h ∷ ended
       → Allows (Ruled load shape) slots id me i (λ n. n) (looked step me)
   looks_allowed slots id i step me h ended place is s ruled len at low = miss_owes s id i step me h ended place is at (opened load shape s id me.0 h ended is at ruled)

@@ -3,7 +3,7 @@ use Rattle.std.proofs.Common.{◌≡◌, ◌≢◌, inl, inr, ℕ, zero, suc, �
 use Rattle.std.specs.Prelude.{slice_index}
 use Rattle.std.specs.List.{sum_by}
 use Rattle.std.proofs.lemmas.Bool.{cases_lt, cases_eq}
-use Rattle.std.proofs.lemmas.List.{get_or_past, get_or-append_right, length-replicate, set-get_or}
+use Rattle.std.proofs.lemmas.List.{get_or_append_left, get_or-append_right, set-get_or}
 use mathlib.Core.Option.{some, none}
 use mathlib.Core.Option as maybe
 use lib.ListN.{get_elem?}
@@ -18,12 +18,10 @@ use Rattle.queue_model.specs.History.{after, own}
 use Rattle.acts_core.specs.Load.{Load}
 use Rattle.queue_model.specs.State.{empty, nothing, row_at, entries}
 use Rattle.queue_model.proofs.Prefixes.{seen_all}
-use Rattle.link_core.specs.Fresh.{blank_rows, fresh_front, fresh_words, fresh}
+use Rattle.link_core.specs.Fresh.{blank_rows, empty_lists, fresh_words}
 use Rattle.link_core.specs.Layout.{draft_of}
-use Rattle.queue_model.specs.Packing.{no_bell}
 use Rattle.link_core.specs.Stands.{Stands}
 use Rattle.link_core.proofs.Making.{fresh_stands}
-use Rattle.link_core.proofs.Frames.{draft_low}
 use Rattle.entry_table.specs.declared.view.Drawing.{Drawing}
 use Rattle.entry_table.specs.declared.view.Shape.{Shape}
 use Rattle.entry_table.specs.declared.view.View.{View}
@@ -51,23 +49,24 @@ blank_draft (suc n) (suc r) j low high =
     get_or-append_right (0 ∷ 1 ∷ 0 ∷ 0 ∷ 0 ∷ 0 ∷ 0 ∷ []) (blank_rows n) 7 (j + 7 * suc r) 0 refl (omega arith)
     ∙ ap (λ (i : ℕ). get_or (blank_rows n) i 0) (let e : j + 7 * suc r - 7 ≡ j + 7 * r = omega arith in e) ∙ blank_draft n r j low high
 
-front_long : (callers : ℕ) → length (fresh_front callers) ≡ 683
-front_long callers =
-    let zeros : List ℕ = 0 ∷ callers ∷ replicate 41 0 in
-    let a = length-append zeros (replicate 640 no_bell) in let b = length-replicate {A = ℕ} 640 no_bell in let c : length (replicate {A = ℕ} 41 0) ≡ 41 = length-replicate {A = ℕ} 41 0 in
-    let e : length zeros ≡ suc (suc (length (replicate {A = ℕ} 41 0))) = refl in omega (arith, a, b, c, e)
+blank_long : (n : ℕ) → length (blank_rows n) ≡ 7 * n
+blank_long zero = refl
+blank_long (suc n) = let e = blank_long n in omega (arith, e)
 
-draft_blank : (callers rows r j : ℕ) → 2 ≤ j → j < 7 → slice_index (fresh_words callers rows) (683 + (j + 7 * r)) ≡ 0
-draft_blank callers rows r j low high =
-    get_or-append_right (fresh_front callers) (blank_rows rows) 683 (683 + (j + 7 * r)) 0 (front_long callers) (omega arith)
-    ∙ ap (λ (i : ℕ). get_or (blank_rows rows) i 0) (let e : 683 + (j + 7 * r) - 683 ≡ j + 7 * r = omega arith in e) ∙ blank_draft rows r j low high
+-- in a fresh table the words of rows come right behind the first three
+draft_blank : (callers rows lists r j : ℕ) → r < rows → 2 ≤ j → j < 7 → slice_index (fresh_words callers rows lists) (3 + (j + 7 * r)) ≡ 0
+draft_blank callers rows lists r j less low high =
+    get_or-append_right (0 ∷ callers ∷ 0 ∷ []) (blank_rows rows ++ empty_lists lists) 3 (3 + (j + 7 * r)) 0 refl (omega arith)
+    ∙ ap (λ (i : ℕ). get_or (blank_rows rows ++ empty_lists lists) i 0) (let e : 3 + (j + 7 * r) - 3 ≡ j + 7 * r = omega arith in e)
+    ∙ get_or_append_left (blank_rows rows) (empty_lists lists) 0 (j + 7 * r) (let long = blank_long rows in omega (arith, long, less, high))
+    ∙ blank_draft rows r j low high
 
-fresh_unwritten : (callers rows : ℕ) → Unwritten (fresh_words callers rows)
-fresh_unwritten callers rows r drafts.Mask high = ap (slice_index (fresh_words callers rows)) (let e : 685 + 7 * r ≡ 683 + (2 + 7 * r) = omega arith in e) ∙ draft_blank callers rows r 2 (omega arith) (omega arith)
-fresh_unwritten callers rows r drafts.Place high = ap (slice_index (fresh_words callers rows)) (let e : 686 + 7 * r ≡ 683 + (3 + 7 * r) = omega arith in e) ∙ draft_blank callers rows r 3 (omega arith) (omega arith)
-fresh_unwritten callers rows r drafts.Ident high = ap (slice_index (fresh_words callers rows)) (let e : 687 + 7 * r ≡ 683 + (4 + 7 * r) = omega arith in e) ∙ draft_blank callers rows r 4 (omega arith) (omega arith)
-fresh_unwritten callers rows r drafts.Size high = ap (slice_index (fresh_words callers rows)) (let e : 688 + 7 * r ≡ 683 + (5 + 7 * r) = omega arith in e) ∙ draft_blank callers rows r 5 (omega arith) (omega arith)
-fresh_unwritten callers rows r drafts.List high = ap (slice_index (fresh_words callers rows)) (let e : 689 + 7 * r ≡ 683 + (6 + 7 * r) = omega arith in e) ∙ draft_blank callers rows r 6 (omega arith) (omega arith)
+fresh_unwritten : (callers rows lists : ℕ) → Unwritten rows (fresh_words callers rows lists)
+fresh_unwritten callers rows lists r drafts.Mask less high = ap (slice_index (fresh_words callers rows lists)) (let e : draft_of r drafts.Mask ≡ 3 + (2 + 7 * r) = omega arith in e) ∙ draft_blank callers rows lists r 2 less (omega arith) (omega arith)
+fresh_unwritten callers rows lists r drafts.Place less high = ap (slice_index (fresh_words callers rows lists)) (let e : draft_of r drafts.Place ≡ 3 + (3 + 7 * r) = omega arith in e) ∙ draft_blank callers rows lists r 3 less (omega arith) (omega arith)
+fresh_unwritten callers rows lists r drafts.Ident less high = ap (slice_index (fresh_words callers rows lists)) (let e : draft_of r drafts.Ident ≡ 3 + (4 + 7 * r) = omega arith in e) ∙ draft_blank callers rows lists r 4 less (omega arith) (omega arith)
+fresh_unwritten callers rows lists r drafts.Size less high = ap (slice_index (fresh_words callers rows lists)) (let e : draft_of r drafts.Size ≡ 3 + (5 + 7 * r) = omega arith in e) ∙ draft_blank callers rows lists r 5 less (omega arith) (omega arith)
+fresh_unwritten callers rows lists r drafts.List less high = ap (slice_index (fresh_words callers rows lists)) (let e : draft_of r drafts.List ≡ 3 + (6 + 7 * r) = omega arith in e) ∙ draft_blank callers rows lists r 6 less (omega arith) (omega arith)
 
 -- empty slots
 module _ (C : Type 0) where
@@ -99,9 +98,9 @@ only P w p (suc j) u e = absurd (cc)
 
 module _ {C : Type 0} (load : C → Load) (shape : Shape) where
   -- the table when it is made
-  pub begins : shape.lists ≤ 10 → shape.rows ≤ 524288 → shape.consumers ≤ 64 → Ruled load shape (opening (fresh_words 1 shape.rows) (replicate {A = Option C} shape.rows None) (boss shape))
-  begins few_lists few_rows few_consumers =
-      let s = fresh_stands shape.lists shape.rows shape.consumers 1 few_lists few_rows few_consumers (omega arith) in (
+  pub begins : shape.rows ≤ 524288 → shape.consumers ≤ 64 → Ruled load shape (opening (fresh_words 1 shape.rows shape.lists) (replicate {A = Option C} shape.rows None) (boss shape))
+  begins few_rows few_consumers =
+      let s = fresh_stands shape.lists shape.rows shape.consumers 1 few_rows few_consumers (omega arith) in (
         empty shape.lists shape.consumers,
         record {
           history = [];
@@ -115,7 +114,7 @@ module _ {C : Type 0} (load : C → Load) (shape : Shape) where
           legal = tt;
           stands = record {
             sound = s.sound;
-            shaped = record { lists = s.shaped.lists; consumers = s.shaped.consumers; few_lists = few_lists; few_consumers = few_consumers; few_rows = few_rows; few_callers = omega arith; long = s.shaped.long };
+            shaped = record { lists = s.shaped.lists; consumers = s.shaped.consumers; few_consumers = few_consumers; few_rows = few_rows; few_callers = omega arith; long = s.shaped.long };
             states = s.states;
             drafted = s.drafted;
             links = s.links;
@@ -127,24 +126,24 @@ module _ {C : Type 0} (load : C → Load) (shape : Shape) where
             reserved = s.reserved;
           };
           cargoes = record { rows = λ r x e. absurd (cc); keyless = λ r x e. absurd (cc); others = λ r lt e. let wide = empty_length C shape.rows in inr (empty_at C shape.rows r (omega (arith, lt, wide))) };
-          knows = only (Knows shape (empty shape.lists shape.consumers) [] (λ k. 0) (slice_index (fresh_words 1 shape.rows) 1)) (boss shape) (record {
+          knows = only (Knows shape (empty shape.lists shape.consumers) [] (λ k. 0) (slice_index (fresh_words 1 shape.rows shape.lists) 1)) (boss shape) (record {
             prefix = ([], refl);
             opens = λ k has. (refl, refl);
-            mine = λ k has. (refl, ⊎_elim (λ (e : 0 ≡ k). let one : slice_index (fresh_words 1 shape.rows) 1 ≡ 1 = refl in omega (arith, e, one)) (λ (z : ⊥). absurd z) has, refl);
+            mine = λ k has. (refl, ⊎_elim (λ (e : 0 ≡ k). let one : slice_index (fresh_words 1 shape.rows shape.lists) 1 ≡ 1 = refl in omega (arith, e, one)) (λ (z : ⊥). absurd z) has, refl);
           });
           serves = only (Serves [] (λ k. 0) shape.consumers) (boss shape) (λ c has. (refl, has_below shape.consumers c has, refl));
           tells = only (Tells []) (boss shape) (λ t has. absurd has);
-          drafts = only (Drafted (fresh_words 1 shape.rows) (λ r. None)) (boss shape) (λ r d found. let z : None ≡ Some d = found in absurd (cc));
-          unwritten = fresh_unwritten 1 shape.rows;
-          reaches = only (λ id v. v.reached ≤ slice_index (fresh_words 1 shape.rows) 0) (boss shape) (omega arith);
+          drafts = only (Drafted (fresh_words 1 shape.rows shape.lists) (λ r. None)) (boss shape) (λ r d found. let z : None ≡ Some d = found in absurd (cc));
+          unwritten = fresh_unwritten 1 shape.rows shape.lists;
+          reaches = only (λ id v. v.reached ≤ slice_index (fresh_words 1 shape.rows shape.lists) 0) (boss shape) (omega arith);
           takes = only (Takes (map some (replicate {A = Option C} shape.rows None)) (λ k. 0)) (boss shape) (λ r e. let z : None ≡ Some r = e in absurd (cc));
           held = only (Holds (empty shape.lists shape.consumers)) (boss shape) (λ r e. let z : None ≡ Some r = e in absurd (cc));
           away = λ r e. absurd (none_out C shape.rows r e);
           allowed = omega arith;
-          shared = let zero_top : slice_index (fresh_words 1 shape.rows) 0 ≡ 0 = refl in omega (arith, zero_top);
+          shared = let zero_top : slice_index (fresh_words 1 shape.rows shape.lists) 0 ≡ 0 = refl in omega (arith, zero_top);
           ends = tt;
           alone = only (Alone (boss shape ∷ []) []) (boss shape) (λ one. (refl, refl));
-          counted = only (Counts (slice_index (fresh_words 1 shape.rows) 1)) (boss shape) (λ ended is. refl);
+          counted = only (Counts (slice_index (fresh_words 1 shape.rows shape.lists) 1)) (boss shape) (λ ended is. refl);
           later = λ k high. refl;
         },
       )

@@ -24,6 +24,7 @@ use Rattle.link_core.specs.Layout.{draft_of}
 use Rattle.link_core.specs.Stands.{Stands}
 use Rattle.link_core.specs.Table.{Table}
 use Rattle.link_core.proofs.Frames as words
+use Rattle.link_core.proofs.Counting.{callers_kept}
 use Rattle.entry_table.specs.declared.view.Drawing.{Drawing}
 use Rattle.entry_table.specs.declared.view.Shape.{Shape}
 use Rattle.entry_table.specs.declared.view.Told.{Told}
@@ -34,24 +35,6 @@ use Rattle.entry_table.specs.Plays.{numbered, numbered_view, behind, cut_left, c
 use Rattle.entry_table.proofs.Frames.{views_set, set_at, at_less, sum_views, in_sum, away_set, not_alone, takes_set, reaches_set, alone_set, takes-append, serves_set, holds_idle}
 use Rattle.entry_table.proofs.Concerning.{has_in, in_has}
 use Rattle.entry_table.proofs.Keeping.{opened, now, me, knows_me, has_me, went}
-
--- a write of the word of callers
-pub callers_kept : (t : Table) (q : Queue) (n : ℕ) → Stands t q → Stands (record t { words = set t.words 1 n }) q
-callers_kept t q n s =
-    let shape = words.shaped_set t q 1 n t.drawer t.reserved s.shaped in
-    record {
-      sound = s.sound;
-      shaped = record { lists = shape.lists; consumers = shape.consumers; few_lists = shape.few_lists; few_consumers = shape.few_consumers; few_rows = shape.few_rows; few_callers = shape.few_callers; long = shape.long };
-      states = words.states_else t.words 1 n q (λ r. omega arith) s.states;
-      drafted = words.drafts_else t.words 1 n q (λ r x found w. omega (arith, words.draft_low r w)) s.drafted;
-      links = words.links_else t.words 1 n t.lists q (λ l few. omega arith) (λ r. omega arith) s.links;
-      tails = words.tails_else t.words 1 n t.lists q (λ l few. omega arith) s.tails;
-      marks = words.marks_else t.words 1 n t.lists q (λ l few. omega arith) s.marks;
-      bells = words.bells_else t.words 1 n t.consumers t.lists q (λ c l fewer few. omega arith) s.bells;
-      depth = words.depth_else t.words 1 n q (omega arith) s.depth;
-      draws = words.draws_else t.words 1 n t.rows t.drawer q (omega arith) (λ r none. omega arith) (λ r none. omega arith) s.draws;
-      reserved = s.reserved;
-    }
 
 -- Lists of numbers
 
@@ -189,7 +172,7 @@ module _ {C : Type 0} (load : C → Load) (shape : Shape) where
               drew = t.drew ∙ ap (λ (l : List ℕ). Some (caller_of l)) is ∙ ap (λ (l : List ℕ). Some (caller_of l)) (sym w_callers);
               written = λ x. off i x ∙ t.written x;
             });
-        unwritten = λ i x high. off i x ∙ r.unwritten i x (omega (arith, top, high));
+        unwritten = λ i x few high. off i x ∙ r.unwritten i x few (omega (arith, top, high));
         reaches = let low = r.reaches id v at in reaches_set (slice_index s.words 0) (slice_index words' 0) s.views id w (omega (arith, top)) (omega (arith, top, low)) r.reaches;
         takes = takes_set s.homes r.outs s.views id v w at refl r.takes;
         held = views_set (Holds q) s.views id w (λ j u ne e. r.held j u e) (holds_idle q id w idle);

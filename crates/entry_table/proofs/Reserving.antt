@@ -67,7 +67,7 @@ module _ {C : Type 0} (load : C → Load) (shape : Shape) where
       plain load shape s id v h ended is at r (by_me v a ∷ []) w words (but r.reserved k (with_more (r.reserved k) size)) r.enders refl (record { shape = refl; opening = refl; callers = refl; made = refl; alone = refl; consumers = refl }) refl refl (sym idle) (holds_idle (after q (by_me v a ∷ [])) id w refl) refl (r.reaches id v at)
       (kept.0, tt) (mine_alone load shape s id v h ended is at r a) (λ c ne. refl) (ends_more r.enders H (by_me v a) r.ends tt)
       (get_or-set_other s.words 2 0 (n + (entry_worth + size)) 0 (λ e. omega arith)) (get_or-set_other s.words 2 1 (n + (entry_worth + size)) 0 (λ e. omega arith))
-      (λ i x. get_or-set_other s.words 2 (draft_of i x) (n + (entry_worth + size)) 0 (λ e. omega (arith, draft_low i x)))
+      (λ i x less. get_or-set_other s.words 2 (draft_of i x) (n + (entry_worth + size)) 0 (λ e. omega (arith, draft_low i x)))
       kept.1 (record { rows = r.cargoes.rows; keyless = r.cargoes.keyless; others = r.cargoes.others }) (omega (arith, sums, allowed, more.0, part, room)) in (
         w,
         keeps,
@@ -102,7 +102,7 @@ module _ {C : Type 0} (load : C → Load) (shape : Shape) where
       plain load shape s id v h ended is at r (by_me v a ∷ []) w words (but r.reserved k (with_less (r.reserved k) size)) r.enders refl (record { shape = refl; opening = refl; callers = refl; made = refl; alone = refl; consumers = refl }) refl refl (sym idle) (holds_idle (after q (by_me v a ∷ [])) id w refl) refl (r.reaches id v at)
       (kept.0, tt) (mine_alone load shape s id v h ended is at r a) (λ c ne. refl) (ends_more r.enders H (by_me v a) r.ends tt)
       (get_or-set_other s.words 2 0 (n - (entry_worth + size)) 0 (λ e. omega arith)) (get_or-set_other s.words 2 1 (n - (entry_worth + size)) 0 (λ e. omega arith))
-      (λ i x. get_or-set_other s.words 2 (draft_of i x) (n - (entry_worth + size)) 0 (λ e. omega (arith, draft_low i x)))
+      (λ i x less. get_or-set_other s.words 2 (draft_of i x) (n - (entry_worth + size)) 0 (λ e. omega (arith, draft_low i x)))
       kept.1 (record { rows = r.cargoes.rows; keyless = r.cargoes.keyless; others = r.cargoes.others }) (omega (arith, sums, allowed, less.0)) in (
         w,
         keeps,

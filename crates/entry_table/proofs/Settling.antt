@@ -55,7 +55,7 @@ module _ {C : Type 0} (load : C → Load) (shape : Shape) where
           v.opening,
           subst (λ (l : List ℕ). RuledAt load shape v.opening record { words = l; homes = s.homes; views = set s.views id w }) (sym (set-get_or s.words i 0))
               (plain load shape s id v h ended is at r [] w s.words r.reserved r.enders all (record { shape = refl; opening = refl; callers = refl; made = refl; alone = refl; consumers = refl }) refl refl refl (r.held id v at) refl reached tt (λ k ne. refl) (λ c ne. refl) (subst (AllEnd r.enders) all r.ends)
-              refl refl (λ k x. refl) r.stands r.cargoes (omega (arith, sums, allowed))),
+              refl refl (λ k x less. refl) r.stands r.cargoes (omega (arith, sums, allowed))),
         ),
         (
           refl,

@@ -29,7 +29,7 @@ use Rattle.entry_table.specs.Views.{Has, caller_of, drawing_at, Mine, reached_by
 use Rattle.entry_table.specs.Rule.{table_at, Full, Bare, Lies, Cargoes, Each, Takes, Holds, Away, RuledAt, Ruled, allowance, share}
 use Rattle.entry_table.specs.Plays.{fetched, given, slotted_view}
 use Rattle.entry_table.proofs.Frames.{views_set, set_at, same_view, sum_views, drafts_set}
-use Rattle.entry_table.proofs.Keeping.{opened, now, me, has_me, knows_me, held_now, sees_same, ruled_next}
+use Rattle.entry_table.proofs.Keeping.{opened, now, me, drawn_low, has_me, knows_me, held_now, sees_same, ruled_next}
 use Rattle.entry_table.proofs.Looking.{reached_low}
 
 -- another seat for the slot of one row
@@ -202,7 +202,7 @@ module _ {C : Type 0} (load : C → Load) (shape : Shape) where
           callers = refl;
           stands = r.stands;
           cargoes = cargoes_bare load s.homes (now load shape s id v h ended is at r) row o (mine_less row mine) bare (mine_kind row mine) r.cargoes;
-          drafts = drafts_set s.words s.words r.drawer s.views id v w at (λ k x. refl) refl refl r.drafts;
+          drafts = drafts_set shape.rows s.words s.words r.drawer s.views id v w at (drawn_low load shape s id v h ended is at r) (λ k x less. refl) refl refl r.drafts;
           unwritten = r.unwritten;
           top = omega arith;
           reaches = reached;
@@ -214,7 +214,7 @@ module _ {C : Type 0} (load : C → Load) (shape : Shape) where
         })
 
   -- a load that takes the slot of a row that the pass drew or holds
-  pub fetches_allowed : (slots id i row : ℕ) (step : Step) (m : Me (Option C) View) (h : ℕ) (ended : List ℕ) → i ≡ place_of_step step → m.0.callers ≡ h ∷ ended → m.0.slot ≡ None → Mine (after m.0.opening m.0.seen) m.0 row
+  pub fetches_allowed : (slots id i row : ℕ) (step : Step) (m : Me (Option C) View) (h : ℕ) (ended : List ℕ) → i ≡ place_of_step shape.rows step → m.0.callers ≡ h ∷ ended → m.0.slot ≡ None → Mine (after m.0.opening m.0.seen) m.0 row
       → Allows (Ruled load shape) slots id m i (λ n. n) (fetched row step m)
   fetches_allowed slots id i row step m h ended place is idle mine s ruled len at low =
       let v : View = m.0 in
@@ -243,7 +243,7 @@ module _ {C : Type 0} (load : C → Load) (shape : Shape) where
       )
 
   -- a load that gives the slot back, empty
-  pub gives_allowed : (slots id i row : ℕ) (step : Step) (m : Me (Option C) View) (h : ℕ) (ended : List ℕ) → i ≡ place_of_step step → m.0.callers ≡ h ∷ ended → m.0.slot ≡ Some row → m.1 ≡ (row, None) ∷ [] → Mine (after m.0.opening m.0.seen) m.0 row
+  pub gives_allowed : (slots id i row : ℕ) (step : Step) (m : Me (Option C) View) (h : ℕ) (ended : List ℕ) → i ≡ place_of_step shape.rows step → m.0.callers ≡ h ∷ ended → m.0.slot ≡ Some row → m.1 ≡ (row, None) ∷ [] → Mine (after m.0.opening m.0.seen) m.0 row
       → Allows (Ruled load shape) slots id m i (λ n. n) (given step m)
   gives_allowed slots id i row step m h ended place is out carried mine s ruled len at low =
       let v : View = m.0 in

@@ -105,9 +105,9 @@ pub record IsDraft (words : List ℕ) (drawer : ℕ → Option ℕ) (v : View) (
 abbrev pub Drafted : List ℕ → (ℕ → Option ℕ) → ℕ → View → Type 0
 Drafted words drawer id v = (r : ℕ) (d : Drawing) → drawing_at v r ≡ Some d → IsDraft words drawer v r d
 
--- the draft words of a row that nobody drew
-abbrev pub Unwritten : List ℕ → Type 0
-Unwritten words = (r : ℕ) (w : DraftWord) → slice_index words 0 ≤ r → slice_index words (draft_of r w) ≡ 0
+-- the draft words of each of so many rows that nobody drew
+abbrev pub Unwritten : ℕ → List ℕ → Type 0
+Unwritten rows words = (r : ℕ) (w : DraftWord) → r < rows → slice_index words 0 ≤ r → slice_index words (draft_of r w) ≡ 0
 
 -- so many rows were drawn, and maybe more
 abbrev pub Reaches : ℕ → ℕ → View → Type 0
@@ -158,7 +158,7 @@ module _ {C : Type 0} (load : C → Load) where
     pub serves : Each (Serves history owners shape.consumers) s.views
     pub tells : Each (Tells history) s.views
     pub drafts : Each (Drafted s.words drawer) s.views
-    pub unwritten : Unwritten s.words
+    pub unwritten : Unwritten shape.rows s.words
     pub reaches : Each (Reaches (slice_index s.words 0)) s.views
     pub takes : Each (Takes s.homes outs) s.views
     pub held : Each (Holds (after O history)) s.views

@@ -13,8 +13,7 @@ use crate::pass::Pass;
 use crate::plays::Reserves;
 use crate::view::View;
 use atomic_table::{Badge, Seat};
-use link_core::places::ENTRY_WORTH;
-use queue_model::Depth;
+use queue_model::{Depth, ENTRY_WORTH};
 use std::mem;
 
 impl<C: Freight> Entries<C> {

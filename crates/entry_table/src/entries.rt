@@ -1,4 +1,5 @@
 //! The table.
+ghost use Rattle.link_core.specs.Layout.{words_of};
 ghost use Rattle.std.specs.Prelude.{◌≡◌, ◌+◌, ◌*◌, ◌≤◌, vec_len, vec_capacity};
 
 use crate::freight::Freight;
@@ -16,7 +17,7 @@ pub struct Entries<C: Freight> {
     pub(crate) parcels: Vec<Option<C>>,
     pub(crate) rest: Vec<RestEntry<C>>,
     pub ghost room: { (vec_len parcels ≡ 0) × (shape.rows ≤ vec_capacity parcels) × (vec_len rest ≡ 0) × (shape.rows ≤ vec_capacity rest) },
-    pub ghost wide: { table.shared.table_id.words ≡ 683 + 7 * shape.rows },
+    pub ghost wide: { table.shared.table_id.words ≡ words_of shape.rows shape.lists },
     pub ghost slots: { table.shared.table_id.slots ≡ shape.rows },
     pub ghost keyed: { table.shared.key ≡ shape },
     pub ghost rows: { shape.rows ≤ 524288 },

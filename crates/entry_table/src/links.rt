@@ -70,13 +70,13 @@ impl<C: Freight> Entries<C> {
         requires picked { (J.number ≡ row) × (J.behind ≡ after) }
         requires table { seat.old.table_id ≡ self.now.table.shared.table_id }
         requires caller { seat.old.me.0.callers ≡ caller ∷ rest_of seat.old.me.0.callers }
-        requires place { (link_of after < self.now.table.shared.table_id.words) × (row < 524288) }
+        requires place { (link_of self.now.shape.rows after < self.now.table.shared.table_id.words) × (row < 524288) }
         requires ready { LinkReady C.goods seat.old.me caller row after }
         ensures table { (seat.new.table_id ≡ seat.old.table_id) × (seat.new.id ≡ seat.old.id) }
         ensures told { linking C.goods row after seat.old.me result seat.new.me }
     {
         let _caller = caller;
-        let place = link_place(after);
+        let place = link_place(self.shape.rows, after);
         self.table
             .shared
             .compare_exchange::<Links<C, J>>(seat, place, 0, row + 1)

@@ -47,7 +47,7 @@ impl<C: Freight> Entries<C> {
         ensures told { looked (steps.Load word) seat.old.me result seat.new.me }
     {
         let _caller = caller;
-        let place = word_place(word);
+        let place = word_place(self.shape.rows, word);
         self.table.shared.load::<Looks<J>>(seat, place)
     }
 }

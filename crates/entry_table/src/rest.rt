@@ -7,6 +7,7 @@ ghost use Rattle.queue_model.specs.declared.rows.RowState.{RowState};
 ghost use Rattle.queue_model.specs.declared.rows.Row.{Row};
 ghost use Rattle.queue_model.specs.declared.queues.Queue.{Queue};
 ghost use Rattle.queue_model.specs.Packing.{pack_state};
+ghost use Rattle.link_core.specs.Layout.{head_of, row_link_of, words_of};
 ghost use Rattle.link_core.specs.Stands.{Stands};
 ghost use Rattle.entry_table.specs.Resting.{IsRest, AreRests, Rested, Legible, Settled, IsFor, rests};
 ghost use Rattle.queue_model.specs.History.{own};
@@ -17,6 +18,7 @@ use crate::entries::Entries;
 use crate::freight::Freight;
 use crate::pass::Pass;
 use atomic_table::Closed;
+use link_core::places::{IDENT_AT, MASK_AT, SIZE_AT, STATE_AT, list_place, row_place, state_of};
 use queue_model::{RowState, Slip};
 use std::alloc::Global;
 use std::mem;
@@ -28,25 +30,6 @@ pub struct RestEntry<C> {
     pub state: RowState,
     pub outdated: bool,
     pub cargo: C,
-}
-
-/// The state of which a word tells.
-pub(crate) fn state_of(word: u64) -> RowState
-    ensures { (s : RowState) → word ≡ pack_state s → result ≡ s }
-{
-    if word == 1 {
-        return RowState::Available;
-    }
-    if word == 2 {
-        return RowState::Dequeued;
-    }
-    if word == 3 {
-        return RowState::Deleted;
-    }
-    if word % 8 == 4 {
-        return RowState::Locked(word / 8);
-    }
-    RowState::Unlocked(word / 8)
 }
 
 // The cargo of a row that waits.
@@ -68,16 +51,16 @@ fn resting<C: Freight>(
     state: RowState,
     cargo: C,
 ) -> RestEntry<C>
-    requires words { IsFull closed.now.words × (690 + 7 * row ≤ slots_len closed.now.words) }
+    requires words { IsFull closed.now.words × (row_link_of (row + 1) ≤ slots_len closed.now.words) }
     requires low { row < 524288 }
     ensures { (q : Queue) (x : Row) → IsFor C.goods (slots_items closed.now.words) q row list state cargo x → IsRest C.goods result x }
 {
-    let at = 683 + 7 * row as usize;
+    let at = row_place(row);
     RestEntry {
         slip: Slip {
-            id: closed.word(at + 4),
-            size: closed.word(at + 5),
-            mask: closed.word(at + 2),
+            id: closed.word(at + IDENT_AT),
+            size: closed.word(at + SIZE_AT),
+            mask: closed.word(at + MASK_AT),
             list,
             key: None,
         },
@@ -112,19 +95,19 @@ fn gather<C: Freight>(
     parcels: &mut Vec<Option<C>>,
     rest: &mut Vec<RestEntry<C>>,
 )
-    requires words { IsFull closed.now.words × (slots_len closed.now.words ≡ 683 + 7 * rows) }
+    requires words { IsFull closed.now.words × (head_of rows (list + 1) ≤ slots_len closed.now.words) }
     requires small { rows ≤ 524288 }
     requires at { (q : Queue) × Legible (slots_items closed.now.words) rows q × (list < q.lists) × Rested C.goods q (list + 1) rest.old.items parcels.old.items × (length (rests q.lists q) ≤ vec_capacity rest.old) }
     ensures rested { (q : Queue) → Legible (slots_items closed.now.words) rows q → list < q.lists → Rested C.goods q (list + 1) rest.old.items parcels.old.items → Rested C.goods q list rest.new.items parcels.new.items }
     ensures room { vec_capacity rest.new ≡ vec_capacity rest.old }
 {
     let mut left = rows;
-    let mut link = closed.word(3 + list as usize);
+    let mut link = closed.word(list_place(rows, list));
     'rows: while link != 0 {
         let row = link - 1;
         left -= 1;
-        let at = 683 + 7 * row as usize;
-        let word = closed.word(at + 1);
+        let at = row_place(row);
+        let word = closed.word(at + STATE_AT);
         if word != 3 {
             let cargo = unload(parcels, row as usize);
             rest.push_reserved(resting(closed, row, list, state_of(word), cargo));
@@ -141,7 +124,7 @@ fn gather_all<C: Freight>(
     parcels: &mut Vec<Option<C>>,
     rest: &mut Vec<RestEntry<C>>,
 )
-    requires words { IsFull closed.now.words × (slots_len closed.now.words ≡ 683 + 7 * rows) }
+    requires words { IsFull closed.now.words × (slots_len closed.now.words ≡ words_of rows lists) }
     requires small { rows ≤ 524288 }
     requires at { (q : Queue) × Legible (slots_items closed.now.words) rows q × (lists ≡ q.lists) × Rested C.goods q lists rest.old.items parcels.old.items × (length (rests q.lists q) ≤ vec_capacity rest.old) }
     ensures rested { (q : Queue) → Legible (slots_items closed.now.words) rows q → lists ≡ q.lists → Rested C.goods q lists rest.old.items parcels.old.items → Rested C.goods q 0 rest.new.items parcels.new.items }

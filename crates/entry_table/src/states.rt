@@ -14,10 +14,9 @@ ghost use Rattle.entry_table.specs.Passes.{IsPassOf, Kept, Did, view, state, all
 use crate::entries::Entries;
 use crate::freight::Freight;
 use crate::pass::Pass;
-use crate::rest::state_of;
 use crate::view::View;
 use atomic_table::{Badge, Play, Seat};
-use link_core::places::state_word;
+use link_core::places::{state_of, state_place, state_word};
 use queue_model::{Change, RowState};
 use std::marker::{Brand, PhantomData};
 use std::mem;
@@ -95,7 +94,7 @@ impl<C: Freight> Entries<C> {
         let _change = change;
         self.table.shared.compare_exchange::<Takes<C, J>>(
             seat,
-            684 + 7 * row as usize,
+            state_place(row),
             state_word(from),
             state_word(RowState::Locked(caller)),
         )
@@ -169,12 +168,9 @@ impl<C: Freight> Entries<C> {
     {
         let _caller = caller;
         let _change = change;
-        self.table.shared.compare_exchange::<Ending<J>>(
-            seat,
-            684 + 7 * row as usize,
-            state_word(from),
-            state_word(to),
-        )
+        self.table
+            .shared
+            .compare_exchange::<Ending<J>>(seat, state_place(row), state_word(from), state_word(to))
     }
 
     // Deq of a row that the caller holds.

@@ -9,6 +9,7 @@ use Rattle.queue_model.specs.Keyed.{Apart}
 use Rattle.queue_model.specs.Sound.{same_number}
 use Rattle.queue_model.specs.State.{is_row, is_of_list}
 use Rattle.queue_model.proofs.KeyedLemmas.{find-here, find-past, find_none-head, find_none-tail, all-filter, position-here, position-past}
+use Rattle.link_core.specs.Layout.{row_link_of}
 use Rattle.link_core.specs.Laws.{LinkNames}
 use Rattle.link_core.specs.Stands.{Points, Chain}
 use Rattle.link_core.proofs.Frames.{set_here, set_else}
@@ -27,32 +28,32 @@ points_more w (y ∷ ys) x some (inr p) = inr (p.0, p.1, points_more w ys x some
 -- the word i is the link at n, or that of one of these rows
 abbrev pub Among : ℕ → ℕ → List Row → Type 0
 Among i n [] = i ≡ n
-Among i n (y ∷ ys) = (i ≡ n) ⊎ Among i (683 + 7 * y.number) ys
+Among i n (y ∷ ys) = (i ≡ n) ⊎ Among i (row_link_of y.number) ys
 
 pub among_start : (i n : ℕ) (rows : List Row) → i ≡ n → Among i n rows
 among_start i n [] e = e
 among_start i n (y ∷ ys) e = inl e
 
 -- the link of a row that is found
-pub among_found : (a n : ℕ) (rows : List Row) (y : Row) → find (is_row a) rows ≡ Some y → Among (683 + 7 * a) n rows
+pub among_found : (a n : ℕ) (rows : List Row) (y : Row) → find (is_row a) rows ≡ Some y → Among (row_link_of a) n rows
 among_found a n [] y found = absurd (cc)
 among_found a n (z ∷ zs) y found = ⊎_elim
-    (λ (hit : is_row a z ≡ true). inr (among_start (683 + 7 * a) (683 + 7 * z.number) zs (ap (λ (k : ℕ). 683 + 7 * k) (sym (eqb-true z.number a hit)))))
-    (λ (miss : is_row a z ≡ false). inr (among_found a (683 + 7 * z.number) zs y (sym (find-past (is_row a) z zs miss) ∙ found)))
+    (λ (hit : is_row a z ≡ true). inr (among_start (row_link_of a) (row_link_of z.number) zs (ap (λ (k : ℕ). row_link_of k) (sym (eqb-true z.number a hit)))))
+    (λ (miss : is_row a z ≡ false). inr (among_found a (row_link_of z.number) zs y (sym (find-past (is_row a) z zs miss) ∙ found)))
     (cases_Bool (is_row a z))
 
 -- The empty link of a node comes to name a new row. So the node is the last, and the row comes behind it.
-pub chain_more : (words : List ℕ) (i n : ℕ) (rows : List Row) (x : Row) → i < length words → slice_index words i ≡ 0 → slice_index words (683 + 7 * x.number) ≡ 0 → 683 + 7 * x.number ≢ i
+pub chain_more : (words : List ℕ) (i n : ℕ) (rows : List Row) (x : Row) → i < length words → slice_index words i ≡ 0 → slice_index words (row_link_of x.number) ≡ 0 → row_link_of x.number ≢ i
     → Among i n rows → Chain words (slice_index words n) rows
     → Chain (slice_set words i (suc x.number)) (slice_index (slice_set words i (suc x.number)) n) (rows ++ x ∷ [])
 chain_more words i n [] x long empty own other among chain =
-    (inl (ap (λ (k : ℕ). slice_index (slice_set words i (suc x.number)) k) (sym among) ∙ set_here words i (suc x.number) long), set_else words i (suc x.number) (683 + 7 * x.number) other ∙ own)
+    (inl (ap (λ (k : ℕ). slice_index (slice_set words i (suc x.number)) k) (sym among) ∙ set_here words i (suc x.number) long), set_else words i (suc x.number) (row_link_of x.number) other ∙ own)
 chain_more words i n (y ∷ ys) x long empty own other among chain =
     let some : slice_index words n ≢ 0 = points_somewhere (slice_index words n) y ys chain.0 in
     let past : n ≢ i = λ e. some (ap (λ (k : ℕ). slice_index words k) e ∙ empty) in (
       subst (λ (w : ℕ). Points w ((y ∷ ys) ++ x ∷ [])) (sym (set_else words i (suc x.number) n past)) (points_more (slice_index words n) (y ∷ ys) x some chain.0),
-      chain_more words i (683 + 7 * y.number) ys x long empty own other
-          (⊎_elim (λ (e : i ≡ n). absurd (past (sym e))) (λ (rest : Among i (683 + 7 * y.number) ys). rest) among) chain.1,
+      chain_more words i (row_link_of y.number) ys x long empty own other
+          (⊎_elim (λ (e : i ≡ n). absurd (past (sym e))) (λ (rest : Among i (row_link_of y.number) ys). rest) among) chain.1,
     )
 
 -- behind an empty link there is no row
@@ -65,14 +66,14 @@ pub empty_list : (words : List ℕ) (w : ℕ) (rows : List Row) → w ≡ 0 → 
 empty_list words w rows e chain = nothing_behind w words rows e chain
 
 -- a row whose link is empty is the last of its list
-pub last_place : (words : List ℕ) (w a : ℕ) (rows : List Row) (y : Row) → find (is_row a) rows ≡ Some y → slice_index words (683 + 7 * a) ≡ 0 → Chain words w rows → position_or_len (is_row a) rows + 1 ≡ length rows
+pub last_place : (words : List ℕ) (w a : ℕ) (rows : List Row) (y : Row) → find (is_row a) rows ≡ Some y → slice_index words (row_link_of a) ≡ 0 → Chain words w rows → position_or_len (is_row a) rows + 1 ≡ length rows
 last_place words w a [] y found empty chain = absurd (cc)
 last_place words w a (z ∷ zs) y found empty chain = ⊎_elim
     (λ (hit : is_row a z ≡ true).
-    let none : length zs ≡ 0 = nothing_behind (slice_index words (683 + 7 * z.number)) words zs (ap (λ (k : ℕ). slice_index words (683 + 7 * k)) (eqb-true z.number a hit) ∙ empty) chain.1 in
+    let none : length zs ≡ 0 = nothing_behind (slice_index words (row_link_of z.number)) words zs (ap (λ (k : ℕ). slice_index words (row_link_of k)) (eqb-true z.number a hit) ∙ empty) chain.1 in
     omega (arith, position-here (is_row a) z zs hit, none))
     (λ (miss : is_row a z ≡ false).
-    omega (arith, position-past (is_row a) z zs miss, last_place words (slice_index words (683 + 7 * z.number)) a zs y (sym (find-past (is_row a) z zs miss) ∙ found) empty chain.1))
+    omega (arith, position-past (is_row a) z zs miss, last_place words (slice_index words (row_link_of z.number)) a zs y (sym (find-past (is_row a) z zs miss) ∙ found) empty chain.1))
     (cases_Bool (is_row a z))
 
 -- no row has a number that is not found

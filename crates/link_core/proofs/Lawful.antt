@@ -56,8 +56,8 @@ all_steps t q (x ∷ xs) s fit =
 
 -- from a fresh table on
 pub law : Law
-law lists rows consumers callers steps few_lists few_rows few_consumers few_callers fit =
-    all_steps (fresh lists rows consumers callers) (empty lists consumers) steps (fresh_stands lists rows consumers callers few_lists few_rows few_consumers few_callers) fit
+law lists rows consumers callers steps few_rows few_consumers few_callers fit =
+    all_steps (fresh lists rows consumers callers) (empty lists consumers) steps (fresh_stands lists rows consumers callers few_rows few_consumers few_callers) fit
 
 -- the vectors keep a table after each step, whatever it answers
 pub kept_advanced : (s new : Store) (r : Result ℕ Unfit) (h : ℕ) (step : Step) → IsKept s → IsLong new → Advances r (table_in s) (table_in new) h step → IsKept new

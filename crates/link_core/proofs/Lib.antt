@@ -11,3 +11,5 @@ pub mod Stored
 pub mod Making
 pub mod Lawful
 pub mod Bounds
+pub mod Leading
+pub mod Counting

@@ -21,7 +21,8 @@ use Rattle.queue_model.proofs.Owns.{own_giving, own_enqueued, own_enqueued_last}
 use Rattle.queue_model.proofs.RowFacts.{row_push_other}
 use Rattle.queue_model.proofs.SoundSteps.{sound_step, row_fits, list_found}
 use Rattle.queue_model.proofs.Stable.{found_in_list, place_step, new_step}
-use Rattle.link_core.specs.Layout.{link_of, draft_of}
+use Rattle.link_core.specs.declared.places.TheConstants.{TOP, DEPTH}
+use Rattle.link_core.specs.Layout.{row_link_of, state_of, draft_of, head_of, tail_of, mark_of, bell_of, link_of}
 use Rattle.queue_model.specs.Packing.{pack_state, pack_depth}
 use Rattle.link_core.specs.Stands.{States, Drafts, IsDrafted, Chain, Links, StandsIn, Tails, Marks, Draws, Stands}
 use Rattle.link_core.specs.Steps.{FitsLink, enqueue_with, changed_by, slip_in, size_in, mask_in, list_in, place_behind}
@@ -29,76 +30,75 @@ use Rattle.link_core.specs.Table.{Table, but, IsNode, list_of_node}
 use Rattle.link_core.proofs.Chaining.{Among, among_start, among_found, chain_more, empty_list, last_place, others_numbered}
 use Rattle.link_core.proofs.Changing.{linked_row}
 use Rattle.link_core.proofs.Drawing.{not_linked, other_than}
-use Rattle.link_core.proofs.Frames.{but_here, but_else, set_else, draft_low, draft_high, chain_else, no_link, drafts_else, tails_else, marks_else, bells_else, depth_else, shaped_set}
+use Rattle.link_core.proofs.Frames.{but_here, but_else, set_else, draft_low, draft_high, chain_else, no_link, drafts_else, tails_else, marks_else, bells_else, depth_else, shaped_set, AreLow, stands_low}
 use Rattle.link_core.proofs.Reserving.{reserved_after_act}
 
 -- What is known of a node of list l whose link is the word i
 record NodeFacts (t : Table) (q : Queue) (node : Node) (l i : ℕ) : Type 0 where
   low : l < t.lists
   long : i < length t.words
-  among : Among i (3 + l) (rows_of q l)
-  others : (k : ℕ) → k ≢ l → AllByRecursion (λ y. 683 + 7 * y.number ≢ i) (rows_of q k)
-  heads : (k : ℕ) → k < t.lists → k ≢ l → 3 + k ≢ i
-  new : (r : ℕ) → row_at q r ≡ None → 683 + 7 * r ≢ i
+  among : Among i (head_of t.rows l) (rows_of q l)
+  others : (k : ℕ) → k ≢ l → AllByRecursion (λ y. row_link_of y.number ≢ i) (rows_of q k)
+  heads : (k : ℕ) → k < t.lists → k ≢ l → head_of t.rows k ≢ i
+  new : (r : ℕ) → r < t.rows → row_at q r ≡ None → row_link_of r ≢ i
   place : slice_index t.words i ≡ 0 → place_behind t node ≡ length (rows_of q l)
-  first : 0 ≢ i
-  depth : 2 ≢ i
-  tails : (k : ℕ) → k < t.lists → 13 + k ≢ i
-  marks : (k : ℕ) → k < t.lists → 23 + k ≢ i
-  bells : (c k : ℕ) → c < t.consumers → k < t.lists → 43 + 10 * c + k ≢ i
-  states : (r : ℕ) → 684 + 7 * r ≢ i
-  drafted : (r : ℕ) (w : DraftWord) → draft_of r w ≢ i
+  first : TOP ≢ i
+  depth : DEPTH ≢ i
+  tails : (k : ℕ) → k < t.lists → tail_of t.rows k ≢ i
+  marks : (k : ℕ) → k < t.lists → mark_of t.rows k ≢ i
+  bells : (c k : ℕ) → c < t.consumers → k < t.lists → bell_of t.rows c k ≢ i
+  states : (r : ℕ) → r < t.rows → state_of r ≢ i
+  drafted : (r : ℕ) → r < t.rows → (w : DraftWord) → draft_of r w ≢ i
 
-head_facts : (t : Table) (q : Queue) (l : ℕ) → Stands t q → l < t.lists → NodeFacts t q (nodes.Head l) l (3 + l)
+head_facts : (t : Table) (q : Queue) (l : ℕ) → Stands t q → l < t.lists → NodeFacts t q (nodes.Head l) l (head_of t.rows l)
 head_facts t q l s lt =
-    let few = s.shaped.few_lists in
     let fewer = s.shaped.few_consumers in
     let long = s.shaped.long in record {
       low = lt;
       long = omega (arith, long);
-      among = among_start (3 + l) (3 + l) (rows_of q l) refl;
-      others = λ k ne. no_link t.words (3 + l) 0 (λ r. omega arith) (rows_of q k);
+      among = among_start (head_of t.rows l) (head_of t.rows l) (rows_of q l) refl;
+      others = λ k ne. no_link t.rows (head_of t.rows l) q k (stands_low t q s) (λ r less. omega arith);
       heads = λ k few ne. omega (arith, ne);
-      new = λ r none. omega arith;
-      place = λ e. sym (empty_list t.words (slice_index t.words (3 + l)) (rows_of q l) e (s.links l lt));
+      new = λ r less none. omega arith;
+      place = λ e. sym (empty_list t.words (slice_index t.words (head_of t.rows l)) (rows_of q l) e (s.links l lt));
       first = omega arith;
       depth = omega arith;
       tails = λ k less. omega arith;
       marks = λ k less. omega arith;
       bells = λ c k less low. omega arith;
-      states = λ r. omega arith;
-      drafted = λ r w. omega (arith, draft_low r w);
+      states = λ r less. omega arith;
+      drafted = λ r less w. omega (arith, draft_high r w);
     }
 
-row_facts : (t : Table) (q : Queue) (a l : ℕ) (z : Row) → Stands t q → row_at q a ≡ Some z → list_in t a ≡ l → NodeFacts t q (nodes.Row a) l (683 + 7 * a)
+row_facts : (t : Table) (q : Queue) (a l : ℕ) (z : Row) → Stands t q → row_at q a ≡ Some z → list_in t a ≡ l → NodeFacts t q (nodes.Row a) l (row_link_of a)
 row_facts t q a l z s found list =
-    let few = s.shaped.few_lists in
     let fewer = s.shaped.few_consumers in
     let long = s.shaped.long in
+    let inside : a < t.rows = stands_low t q s a z found in
     let drafted = s.drafted a z found in
     let own : z.slip.list ≡ l = sym drafted.list ∙ list in
     let at : list_at q a ≡ l = list_found q a z found ∙ own in
     let low : l < t.lists = omega (arith, own, (row_fits q a z s.sound found).list, s.shaped.lists) in
-    let inside : find (is_row a) (rows_of q l) ≡ Some z = subst (λ (m : ℕ). find (is_row a) (rows_of q m) ≡ Some z) at (found_in_list q a z found) in record {
+    let among : find (is_row a) (rows_of q l) ≡ Some z = subst (λ (m : ℕ). find (is_row a) (rows_of q m) ≡ Some z) at (found_in_list q a z found) in record {
       low = low;
-      long = omega (arith, long, s.draws.below a z found, s.draws.top);
-      among = among_found a (3 + l) (rows_of q l) z inside;
-      others = λ k ne. all-weaker (λ (y : Row). y.number ≢ a) (λ (y : Row). 683 + 7 * y.number ≢ 683 + 7 * a) (rows_of q k) (λ y other. omega (arith, other))
+      long = omega (arith, long);
+      among = among_found a (head_of t.rows l) (rows_of q l) z among;
+      others = λ k ne. all-weaker (λ (y : Row). y.number ≢ a) (λ (y : Row). row_link_of y.number ≢ row_link_of a) (rows_of q k) (λ y other. omega (arith, other))
           (others_numbered a k q.rows z s.sound.rows_apart found (λ e. ne (sym e ∙ own)));
       heads = λ k less ne. omega arith;
-      new = λ r none. let ne : a ≢ r = other_than q r a z none found in omega (arith, ne);
-      place = λ e. omega (arith, drafted.place, ap (λ (m : ℕ). position_or_len (is_row a) (rows_of q m)) at, last_place t.words (slice_index t.words (3 + l)) a (rows_of q l) z inside e (s.links l low));
+      new = λ r less none. let ne : a ≢ r = other_than q r a z none found in omega (arith, ne);
+      place = λ e. omega (arith, drafted.place, ap (λ (m : ℕ). position_or_len (is_row a) (rows_of q m)) at, last_place t.words (slice_index t.words (head_of t.rows l)) a (rows_of q l) z among e (s.links l low));
       first = omega arith;
       depth = omega arith;
       tails = λ k less. omega arith;
       marks = λ k less. omega arith;
       bells = λ c k less lower. omega arith;
-      states = λ r. omega arith;
-      drafted = λ r w. omega (arith, draft_low r w, draft_high r w);
+      states = λ r less. omega arith;
+      drafted = λ r less w. omega (arith, draft_low r w, draft_high r w);
     }
 
-node_facts : (t : Table) (q : Queue) (node : Node) (l : ℕ) → Stands t q → IsNode t node → list_of_node t node ≡ l → NodeFacts t q node l (link_of node)
-node_facts t q (nodes.Head m) l s lt e = subst (λ (k : ℕ). NodeFacts t q (nodes.Head m) k (3 + m)) e (head_facts t q m s lt)
+node_facts : (t : Table) (q : Queue) (node : Node) (l : ℕ) → Stands t q → IsNode t node → list_of_node t node ≡ l → NodeFacts t q node l (link_of t.rows node)
+node_facts t q (nodes.Head m) l s lt e = subst (λ (k : ℕ). NodeFacts t q (nodes.Head m) k (head_of t.rows m)) e (head_facts t q m s lt)
 node_facts t q (nodes.Row a) l s linked e = let row = linked_row t q a s linked in row_facts t q a l row.0 s row.1 e
 
 -- the new row
@@ -144,21 +144,28 @@ module _ (t : Table) (q : Queue) (h r : ℕ) (node : Node) (content origin : Lis
   none_kept : (k : ℕ) → row_at (acted q h (enqueue_with t r content origin n)) k ≡ None → (k ≢ r) × (row_at q k ≡ None)
   none_kept k e = ((λ same. let bad : None ≡ Some (new_row t r content origin n) = sym e ∙ ap (row_at (acted q h (enqueue_with t r content origin n))) same ∙ there in absurd (cc)), new_step q h (enqueue_with t r content origin n) k e)
 
+  low : AreLow t.rows (acted q h (enqueue_with t r content origin n))
+  low k y e = ⊎_elim
+      (λ (p : (k ≡ r) × (y ≡ new_row t r content origin n)). let same = p.0 in let inside : r < t.rows = fits.drawn.row in omega (arith, same))
+      (λ (p : (k ≢ r) × (row_at q k ≡ Some y)). stands_low t q s k y p.1)
+      (row_found k y e)
+
   states_linked : States (slice_set t.words i (suc r)) (acted q h (enqueue_with t r content origin n))
   states_linked k y e = ⊎_elim
       (λ (p : (k ≡ r) × (y ≡ new_row t r content origin n)).
-      set_else t.words i (suc r) (684 + 7 * k) (facts.states k) ∙ ap (λ (n : ℕ). slice_index t.words (684 + 7 * n)) p.0 ∙ s.draws.unset r fits.drawn.row none ∙ ap (λ (z : Row). pack_state z.state) (sym p.1))
-      (λ (p : (k ≢ r) × (row_at q k ≡ Some y)). set_else t.words i (suc r) (684 + 7 * k) (facts.states k) ∙ s.states k y p.1)
+      set_else t.words i (suc r) (state_of k) (facts.states k (low k y e)) ∙ ap (λ (n : ℕ). slice_index t.words (state_of n)) p.0 ∙ s.draws.unset r fits.drawn.row none ∙ ap (λ (z : Row). pack_state z.state) (sym p.1))
+      (λ (p : (k ≢ r) × (row_at q k ≡ Some y)). set_else t.words i (suc r) (state_of k) (facts.states k (low k y e)) ∙ s.states k y p.1)
       (row_found k y e)
 
   -- the draft words of the new row tell its slip, and its place at the end of its list
   drafted_new : IsDrafted (slice_set t.words i (suc r)) r (place_at (acted q h (enqueue_with t r content origin n)) r) (slip_in t r)
   drafted_new = record {
-    mask = set_else t.words i (suc r) (685 + 7 * r) (facts.drafted r drafts.Mask);
-    place = set_else t.words i (suc r) (686 + 7 * r) (facts.drafted r drafts.Place) ∙ fits.behind.place ∙ facts.place empty ∙ sym (own_enqueued_last q h r (slip_in t r) content origin n can);
-    ident = set_else t.words i (suc r) (687 + 7 * r) (facts.drafted r drafts.Ident);
-    size = set_else t.words i (suc r) (688 + 7 * r) (facts.drafted r drafts.Size);
-    list = set_else t.words i (suc r) (689 + 7 * r) (facts.drafted r drafts.List);
+    mask = set_else t.words i (suc r) (draft_of r drafts.Mask) (facts.drafted r fits.drawn.row drafts.Mask);
+    place = set_else t.words i (suc r) (draft_of r drafts.Place) (facts.drafted r fits.drawn.row drafts.Place) ∙ fits.behind.place ∙ facts.place empty ∙ sym (own_enqueued_last q h r (slip_in t r) content origin n can);
+    ident = set_else t.words i (suc r) (draft_of r drafts.Ident) (facts.drafted r fits.drawn.row drafts.Ident);
+    size = set_else t.words i (suc r) (draft_of r drafts.Size) (facts.drafted r fits.drawn.row drafts.Size);
+    list = set_else t.words i (suc r) (draft_of r drafts.List) (facts.drafted r fits.drawn.row drafts.List);
+    key = refl;
   }
 
   drafts_linked : Drafts (slice_set t.words i (suc r)) (acted q h (enqueue_with t r content origin n))
@@ -168,7 +175,7 @@ module _ (t : Table) (q : Queue) (h r : ℕ) (node : Node) (content origin : Lis
       (subst (λ (z : Row). IsDrafted (slice_set t.words i (suc r)) r (place_at (acted q h (enqueue_with t r content origin n)) r) z.slip) (sym p.1) drafted_new))
       (λ (p : (k ≢ r) × (row_at q k ≡ Some y)).
       subst (λ (m : ℕ). IsDrafted (slice_set t.words i (suc r)) k m y.slip) (sym (place_step q h (enqueue_with t r content origin n) k y p.1))
-      (drafts_else t.words i (suc r) q (λ m z found w. facts.drafted m w) s.drafted k y p.1))
+      (drafts_else t.rows t.words i (suc r) q (λ m z found w. facts.drafted m (stands_low t q s m z found) w) s.drafted k y p.1))
       (row_found k y e)
 
   -- the list of the new row ends with it
@@ -181,37 +188,37 @@ module _ (t : Table) (q : Queue) (h r : ℕ) (node : Node) (content origin : Lis
       filter-append (is_of_list l) q.rows (new_row t r content origin n ∷ []) ∙ ap (λ (ys : List Row). rows_of q l ++ ys) (cond-false (is_of_list l (new_row t r content origin n)) (new_row t r content origin n ∷ []) [] (ne_eqb (list_in t r) l (λ e. ne (sym e))))
       ∙ append-nil (rows_of q l)
 
-  links_linked : Links t.lists (slice_set t.words i (suc r)) (acted q h (enqueue_with t r content origin n))
+  links_linked : Links t.rows t.lists (slice_set t.words i (suc r)) (acted q h (enqueue_with t r content origin n))
   links_linked l lt = ⊎_elim
       (λ (e : l ≡ list_in t r).
-      subst (λ (rows : List Row). Chain (slice_set t.words i (suc r)) (slice_index (slice_set t.words i (suc r)) (3 + l)) rows) (sym (longer l e))
-      (chain_more t.words i (3 + l) (rows_of q l) (new_row t r content origin n) facts.long empty (s.draws.unlinked r fits.drawn.row none) (facts.new r none)
-      (subst (λ (m : ℕ). Among i (3 + m) (rows_of q m)) (sym e) facts.among) (s.links l lt)))
+      subst (λ (rows : List Row). Chain (slice_set t.words i (suc r)) (slice_index (slice_set t.words i (suc r)) (head_of t.rows l)) rows) (sym (longer l e))
+      (chain_more t.words i (head_of t.rows l) (rows_of q l) (new_row t r content origin n) facts.long empty (s.draws.unlinked r fits.drawn.row none) (facts.new r fits.drawn.row none)
+      (subst (λ (m : ℕ). Among i (head_of t.rows m) (rows_of q m)) (sym e) facts.among) (s.links l lt)))
       (λ (ne : l ≢ list_in t r).
-      subst (λ (rows : List Row). Chain (slice_set t.words i (suc r)) (slice_index (slice_set t.words i (suc r)) (3 + l)) rows) (sym (as_long l ne))
-      (subst (λ (w : ℕ). Chain (slice_set t.words i (suc r)) w (rows_of q l)) (sym (set_else t.words i (suc r) (3 + l) (facts.heads l lt ne)))
-      (chain_else t.words i (suc r) (slice_index t.words (3 + l)) (rows_of q l) (facts.others l ne) (s.links l lt))))
+      subst (λ (rows : List Row). Chain (slice_set t.words i (suc r)) (slice_index (slice_set t.words i (suc r)) (head_of t.rows l)) rows) (sym (as_long l ne))
+      (subst (λ (w : ℕ). Chain (slice_set t.words i (suc r)) w (rows_of q l)) (sym (set_else t.words i (suc r) (head_of t.rows l) (facts.heads l lt ne)))
+      (chain_else t.rows t.words i (suc r) (slice_index t.words (head_of t.rows l)) (rows_of q l) (facts.others l ne) (s.links l lt))))
       (cases_eq l (list_in t r))
 
   -- a row that stands in a list still does
   in_list_linked : (l k : ℕ) → StandsIn (row_at q) l k → StandsIn (row_at (acted q h (enqueue_with t r content origin n))) l k
   in_list_linked l k stands = record { row = stands.row; found = row_kept k stands.row stands.found; list = stands.list }
 
-  tails_linked : (words : List ℕ) → Tails t.lists words q → Tails t.lists words (acted q h (enqueue_with t r content origin n))
-  tails_linked words tails l lt = ⊎_elim (λ (e : slice_index words (13 + l) ≡ 0). inl e)
-      (λ (p : (k : ℕ) × StandsIn (row_at q) l k × (slice_index words (13 + l) ≡ suc k)). inr (p.0, in_list_linked l p.0 p.1, p.2))
+  tails_linked : (words : List ℕ) → Tails t.rows t.lists words q → Tails t.rows t.lists words (acted q h (enqueue_with t r content origin n))
+  tails_linked words tails l lt = ⊎_elim (λ (e : slice_index words (tail_of t.rows l) ≡ 0). inl e)
+      (λ (p : (k : ℕ) × StandsIn (row_at q) l k × (slice_index words (tail_of t.rows l) ≡ suc k)). inr (p.0, in_list_linked l p.0 p.1, p.2))
       (tails l lt)
 
-  marks_linked : (words : List ℕ) → Marks t.lists words q → Marks t.lists words (acted q h (enqueue_with t r content origin n))
-  marks_linked words marks l lt = ⊎_elim (λ (e : slice_index words (23 + l) ≡ 0). inl e)
-      (λ (p : (k : ℕ) × StandsIn (row_at q) l k × (slice_index words (23 + l) ≡ place_at q k)).
+  marks_linked : (words : List ℕ) → Marks t.rows t.lists words q → Marks t.rows t.lists words (acted q h (enqueue_with t r content origin n))
+  marks_linked words marks l lt = ⊎_elim (λ (e : slice_index words (mark_of t.rows l) ≡ 0). inl e)
+      (λ (p : (k : ℕ) × StandsIn (row_at q) l k × (slice_index words (mark_of t.rows l) ≡ place_at q k)).
       inr (p.0, in_list_linked l p.0 p.1, p.2 ∙ sym (place_step q h (enqueue_with t r content origin n) p.0 p.1.row p.1.found)))
       (marks l lt)
 
   draws_linked : Draws t.rows (slice_set t.words i (suc r)) (but t.drawer r None) (row_at (acted q h (enqueue_with t r content origin n)))
   draws_linked =
-      let same : slice_index (slice_set t.words i (suc r)) 0 ≡ slice_index t.words 0 = set_else t.words i (suc r) 0 facts.first in
-      let below : r < slice_index t.words 0 = s.draws.low r h fits.drawn.drawer in record {
+      let same : slice_index (slice_set t.words i (suc r)) TOP ≡ slice_index t.words TOP = set_else t.words i (suc r) TOP facts.first in
+      let below : r < slice_index t.words TOP = s.draws.low r h fits.drawn.drawer in record {
         top = omega (arith, same, s.draws.top);
         below = λ k y e. ⊎_elim
             (λ (p : (k ≡ r) × (y ≡ new_row t r content origin n)). let e = p.0 in omega (arith, same, below))
@@ -226,8 +233,8 @@ module _ (t : Table) (q : Queue) (h r : ℕ) (node : Node) (content origin : Lis
             (λ (here : k ≡ r). omega (arith, same, below))
             (λ (ne : k ≢ r). omega (arith, same, s.draws.low k m (sym (but_else t.drawer r None k ne) ∙ e)))
             (cases_eq k r);
-        unset = λ k lt free. let p = none_kept k free in set_else t.words i (suc r) (684 + 7 * k) (facts.states k) ∙ s.draws.unset k lt p.1;
-        unlinked = λ k lt free. let p = none_kept k free in set_else t.words i (suc r) (683 + 7 * k) (facts.new k p.1) ∙ s.draws.unlinked k lt p.1;
+        unset = λ k lt free. let p = none_kept k free in set_else t.words i (suc r) (state_of k) (facts.states k lt) ∙ s.draws.unset k lt p.1;
+        unlinked = λ k lt free. let p = none_kept k free in set_else t.words i (suc r) (row_link_of k) (facts.new k lt p.1) ∙ s.draws.unlinked k lt p.1;
       }
 
   linked : (u : Table) → u ≡ record t { words = slice_set t.words i (suc r); drawer = but t.drawer r None; reserved = but t.reserved h (with_less (t.reserved h) (size_in t r)) }
@@ -235,21 +242,21 @@ module _ (t : Table) (q : Queue) (h r : ℕ) (node : Node) (content origin : Lis
   linked u is = let same = depth_kept q h (enqueue_with t r content origin n) can tt in subst (λ (w : Table). Stands w (acted q h (enqueue_with t r content origin n))) (sym is) (record {
     sound = sound_step q h (enqueue_with t r content origin n) can s.sound;
     shaped = let shape = shaped_set t q i (suc r) t.drawer t.reserved s.shaped in
-        record { lists = shape.lists; consumers = shape.consumers; few_lists = shape.few_lists; few_consumers = shape.few_consumers; few_rows = shape.few_rows; few_callers = shape.few_callers; long = shape.long };
+        record { lists = shape.lists; consumers = shape.consumers; few_consumers = shape.few_consumers; few_rows = shape.few_rows; few_callers = shape.few_callers; long = shape.long };
     states = states_linked;
     drafted = drafts_linked;
     links = links_linked;
-    tails = tails_linked (slice_set t.words i (suc r)) (tails_else t.words i (suc r) t.lists q facts.tails s.tails);
-    marks = marks_linked (slice_set t.words i (suc r)) (marks_else t.words i (suc r) t.lists q facts.marks s.marks);
-    bells = bells_else t.words i (suc r) t.consumers t.lists q facts.bells s.bells;
-    depth = depth_else t.words i (suc r) q facts.depth s.depth ∙ ap₂ pack_depth (sym same.0) (sym same.1);
+    tails = tails_linked (slice_set t.words i (suc r)) (tails_else t.rows t.words i (suc r) t.lists q facts.tails s.tails);
+    marks = marks_linked (slice_set t.words i (suc r)) (marks_else t.rows t.words i (suc r) t.lists q facts.marks s.marks);
+    bells = bells_else t.rows t.words i (suc r) t.consumers t.lists q facts.bells s.bells;
+    depth = depth_else t.rows t.words i (suc r) q facts.depth s.depth ∙ ap₂ pack_depth (sym same.0) (sym same.1);
     draws = draws_linked;
     reserved = reserved_after_act t q h (enqueue_with t r content origin n) (with_less (t.reserved h) (size_in t r)) s.reserved
         (own_giving q h (size_in t r) s.sound can.reserved ∙ ap (λ (v : Reservation). with_less v (size_in t r)) (s.reserved h));
   })
 
 -- a link behind a node whose link is empty
-pub link_step : (t : Table) (q : Queue) (h r : ℕ) (node : Node) (content origin : List ℕ) (n : ℕ) → Stands t q → FitsLink t h r node → slice_index t.words (link_of node) ≡ 0
+pub link_step : (t : Table) (q : Queue) (h r : ℕ) (node : Node) (content origin : List ℕ) (n : ℕ) → Stands t q → FitsLink t h r node → slice_index t.words (link_of t.rows node) ≡ 0
     → Can q h (enqueue_with t r content origin n) × Stands (changed_by t h (Link r node)) (acted q h (enqueue_with t r content origin n))
 link_step t q h r node content origin n s fits empty =
-    (can_enqueue t q h r node content origin n s fits, linked t q h r node content origin n s fits (link_of node) (node_facts t q node (list_in t r) s fits.node (sym fits.behind.list)) empty (changed_by t h (Link r node)) refl)
+    (can_enqueue t q h r node content origin n s fits, linked t q h r node content origin n s fits (link_of t.rows node) (node_facts t q node (list_in t r) s fits.node (sym fits.behind.list)) empty (changed_by t h (Link r node)) refl)

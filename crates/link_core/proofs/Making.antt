@@ -1,12 +1,13 @@
 -- a fresh table stands for an empty queue
-use Rattle.std.proofs.Common.{◌≡◌, inl, ℕ, zero, suc, ◌+◌, ◌-◌, ◌*◌, ◌<◌, ◌≤◌, List, [], ◌∷◌, ◌++◌, length, get_or, set, replicate, ⊎_elim, refl, ap, ◌∙◌, length-append, arith, Option, None, subst, sym}
+use Rattle.std.proofs.Common.{◌≡◌, inl, ℕ, zero, suc, ◌+◌, ◌-◌, ◌*◌, ◌<◌, ◌≤◌, List, [], ◌∷◌, ◌++◌, length, get_or, set, replicate, ⊎_elim, refl, ap, ◌∙◌, append-nil, append_assoc, length-append, arith, Option, None, subst, sym}
 use Rattle.std.specs.Prelude.{slice_index}
 use Rattle.std.proofs.lemmas.Bool.{cases_lt}
 use Rattle.std.proofs.lemmas.List.{get_or_past, length-replicate, get_or-replicate, get_or_append_left, get_or-append_right}
 use Rattle.queue_model.specs.Sound.{Sound}
 use Rattle.queue_model.specs.State.{empty}
 use Rattle.queue_model.proofs.SoundSteps.{sound_opening}
-use Rattle.link_core.specs.Fresh.{blank_rows, fresh_front, fresh_words, fresh}
+use Rattle.link_core.specs.Fresh.{blank_rows, empty_lists, fresh_words, fresh}
+use Rattle.link_core.specs.Layout.{words_of, row_link_of, state_of, head_of, tail_of, mark_of, bell_of}
 use Rattle.queue_model.specs.Packing.{no_bell}
 use Rattle.link_core.specs.Stands.{Stands}
 use Rattle.link_core.specs.declared.store.Store.{Store}
@@ -41,74 +42,112 @@ pub blank_more : (n : ℕ) → blank_rows n ++ 0 ∷ 1 ∷ 0 ∷ 0 ∷ 0 ∷ 0 �
 blank_more zero = refl
 blank_more (suc n) = ap (λ (xs : List ℕ). 0 ∷ 1 ∷ 0 ∷ 0 ∷ 0 ∷ 0 ∷ 0 ∷ xs) (blank_more n) ∙ ap blank_rows (let e : suc (n + 1) ≡ suc n + 1 = omega arith in e)
 
+-- Words of lists
+
+-- the words of one list that has no row
+abbrev empty_block : List ℕ
+empty_block = 0 ∷ 0 ∷ 0 ∷ 0 ∷ replicate 64 no_bell
+
+block_long : length empty_block ≡ 68
+block_long = let e : length (replicate {A = ℕ} 64 no_bell) ≡ 64 = length-replicate 64 no_bell in omega (arith, e)
+
+empty_length : (n : ℕ) → length (empty_lists n) ≡ 68 * n
+empty_length zero = refl
+empty_length (suc n) = length-append empty_block (empty_lists n) ∙ (let e = empty_length n in let b = block_long in omega (arith, e, b))
+
+-- the word k of a list
+list_word : (n l k : ℕ) → l < n → k < 68 → get_or (empty_lists n) (68 * l + k) 0 ≡ get_or empty_block k 0
+list_word zero l k lt less = absurd (omega (arith, lt))
+list_word (suc n) zero k lt less =
+    ap (λ (i : ℕ). get_or (empty_lists (suc n)) i 0) (let e : 68 * 0 + k ≡ k = omega arith in e)
+    ∙ get_or_append_left empty_block (empty_lists n) 0 k (let b = block_long in omega (arith, b, less))
+list_word (suc n) (suc l) k lt less =
+    get_or-append_right empty_block (empty_lists n) 68 (68 * suc l + k) 0 block_long (omega arith)
+    ∙ ap (λ (i : ℕ). get_or (empty_lists n) i 0) (let e : 68 * suc l + k - 68 ≡ 68 * l + k = omega arith in e)
+    ∙ list_word n l k (omega (arith, lt)) less
+
+-- its bells
+block_bell : (c : ℕ) → c < 64 → get_or empty_block (4 + c) 0 ≡ no_bell
+block_bell c lt =
+    get_or-append_right (0 ∷ 0 ∷ 0 ∷ 0 ∷ []) (replicate 64 no_bell) 4 (4 + c) 0 refl (omega arith)
+    ∙ ap (λ (i : ℕ). get_or (replicate 64 no_bell) i 0) (let e : 4 + c - 4 ≡ c = omega arith in e)
+    ∙ get_or-replicate 64 c no_bell 0 lt
+
+-- one list more
+pub empty_more : (n : ℕ) → empty_lists n ++ empty_block ≡ empty_lists (n + 1)
+empty_more zero = sym (append-nil empty_block)
+empty_more (suc n) =
+    append_assoc empty_block (empty_lists n) empty_block
+    ∙ ap (λ (xs : List ℕ). empty_block ++ xs) (empty_more n) ∙ ap empty_lists (let e : suc (n + 1) ≡ suc n + 1 = omega arith in e)
+
 -- All words
 
-module _ (callers rows : ℕ) where
-  abbrev zeros : List ℕ
-  zeros = 0 ∷ callers ∷ replicate 41 0
-
+module _ (callers rows lists : ℕ) where
   abbrev front : List ℕ
-  front = fresh_front callers
+  front = 0 ∷ callers ∷ 0 ∷ []
 
-  front_long : length front ≡ 683
-  front_long = length-append zeros (replicate 640 no_bell) ∙ (let a = length-replicate {A = ℕ} 640 no_bell in let b : length (replicate {A = ℕ} 41 0) ≡ 41 = length-replicate {A = ℕ} 41 0 in let e : length zeros ≡ suc (suc (length (replicate {A = ℕ} 41 0))) = refl in omega (arith, a, b, e))
+  pub fresh_length : length (fresh_words callers rows lists) ≡ words_of rows lists
+  fresh_length = let e = length-append (blank_rows rows) (empty_lists lists) in let a = blank_length rows in let b = empty_length lists in omega (arith, e, a, b)
 
-  zeros_long : length zeros ≡ 43
-  zeros_long = let b : length (replicate {A = ℕ} 41 0) ≡ 41 = length-replicate {A = ℕ} 41 0 in let e : length zeros ≡ suc (suc (length (replicate {A = ℕ} 41 0))) = refl in omega (arith, b, e)
+  -- the words behind the first three
+  behind : (i : ℕ) → slice_index (fresh_words callers rows lists) (3 + i) ≡ get_or (blank_rows rows ++ empty_lists lists) i 0
+  behind i =
+      get_or-append_right front (blank_rows rows ++ empty_lists lists) 3 (3 + i) 0 refl (omega arith)
+      ∙ ap (λ (k : ℕ). get_or (blank_rows rows ++ empty_lists lists) k 0) (let e : 3 + i - 3 ≡ i = omega arith in e)
 
-  pub fresh_length : length (fresh_words callers rows) ≡ 683 + 7 * rows
-  fresh_length = length-append front (blank_rows rows) ∙ (let a = front_long in let b = blank_length rows in omega (arith, a, b))
+  row_word : (i : ℕ) → i < 7 * rows → slice_index (fresh_words callers rows lists) (3 + i) ≡ get_or (blank_rows rows) i 0
+  row_word i lt = behind i ∙ get_or_append_left (blank_rows rows) (empty_lists lists) 0 i (let a = blank_length rows in omega (arith, a, lt))
 
-  in_front : (i : ℕ) → i < 683 → slice_index (fresh_words callers rows) i ≡ slice_index front i
-  in_front i lt = get_or_append_left front (blank_rows rows) 0 i (let a = front_long in omega (arith, a, lt))
+  link_at : (r : ℕ) → r < rows → slice_index (fresh_words callers rows lists) (row_link_of r) ≡ 0
+  link_at r lt = row_word (7 * r) (omega (arith, lt)) ∙ blank_link rows r lt
 
-  zero_at : (i : ℕ) → 2 ≤ i → i < 43 → slice_index (fresh_words callers rows) i ≡ 0
-  zero_at i le lt =
-      in_front i (omega (arith, lt)) ∙ get_or_append_left zeros (replicate 640 no_bell) 0 i (let a = zeros_long in omega (arith, a, lt))
-      ∙ get_or-append_right (0 ∷ callers ∷ []) (replicate 41 0) 2 i 0 refl le ∙ get_or-replicate 41 (i - 2) 0 0 (omega (arith, le, lt))
+  state_at : (r : ℕ) → r < rows → slice_index (fresh_words callers rows lists) (state_of r) ≡ 1
+  state_at r lt =
+      ap (slice_index (fresh_words callers rows lists)) (let e : state_of r ≡ 3 + (1 + 7 * r) = omega arith in e)
+      ∙ row_word (1 + 7 * r) (omega (arith, lt)) ∙ blank_state rows r lt
 
-  silent_at : (i : ℕ) → 43 ≤ i → i < 683 → slice_index (fresh_words callers rows) i ≡ no_bell
-  silent_at i le lt = in_front i lt ∙ get_or-append_right zeros (replicate 640 no_bell) 43 i 0 zeros_long le ∙ get_or-replicate 640 (i - 43) no_bell 0 (omega (arith, le, lt))
-
-  link_at : (r : ℕ) → r < rows → slice_index (fresh_words callers rows) (683 + 7 * r) ≡ 0
-  link_at r lt = get_or-append_right front (blank_rows rows) 683 (683 + 7 * r) 0 front_long (omega arith) ∙ ap (λ (i : ℕ). get_or (blank_rows rows) i 0) (let e : 683 + 7 * r - 683 ≡ 7 * r = omega arith in e) ∙ blank_link rows r lt
-
-  state_at : (r : ℕ) → r < rows → slice_index (fresh_words callers rows) (684 + 7 * r) ≡ 1
-  state_at r lt = get_or-append_right front (blank_rows rows) 683 (684 + 7 * r) 0 front_long (omega arith) ∙ ap (λ (i : ℕ). get_or (blank_rows rows) i 0) (let e : 684 + 7 * r - 683 ≡ 1 + 7 * r = omega arith in e) ∙ blank_state rows r lt
+  -- the word k of list l, which stands at i
+  word_at : (l k i : ℕ) → l < lists → k < 68 → i ≡ head_of rows l + k → slice_index (fresh_words callers rows lists) i ≡ get_or empty_block k 0
+  word_at l k i lt less is =
+      ap (slice_index (fresh_words callers rows lists)) (let e : i ≡ 3 + (7 * rows + (68 * l + k)) = omega (arith, is) in e)
+      ∙ behind (7 * rows + (68 * l + k))
+      ∙ get_or-append_right (blank_rows rows) (empty_lists lists) (7 * rows) (7 * rows + (68 * l + k)) 0 (blank_length rows) (omega arith)
+      ∙ ap (λ (j : ℕ). get_or (empty_lists lists) j 0) (let e : 7 * rows + (68 * l + k) - 7 * rows ≡ 68 * l + k = omega arith in e)
+      ∙ list_word lists l k lt less
 
 -- an empty queue is sound
 empty_sound : (lists consumers : ℕ) → Sound (empty lists consumers)
 empty_sound lists consumers = sound_opening (empty lists consumers) (record { rows_apart = tt; rows_fit = tt; available = tt; reserved = refl; bells = refl; few = omega arith })
 
-pub fresh_stands : (lists rows consumers callers : ℕ) → lists ≤ 10 → rows ≤ 524288 → consumers ≤ 64 → callers ≤ 4294967296 → Stands (fresh lists rows consumers callers) (empty lists consumers)
-fresh_stands lists rows consumers callers few_lists few_rows few_consumers few_callers = record {
+pub fresh_stands : (lists rows consumers callers : ℕ) → rows ≤ 524288 → consumers ≤ 64 → callers ≤ 4294967296 → Stands (fresh lists rows consumers callers) (empty lists consumers)
+fresh_stands lists rows consumers callers few_rows few_consumers few_callers = record {
   sound = empty_sound lists consumers;
-  shaped = record { lists = refl; consumers = refl; few_lists = few_lists; few_consumers = few_consumers; few_rows = few_rows; few_callers = few_callers; long = fresh_length callers rows };
+  shaped = record { lists = refl; consumers = refl; few_consumers = few_consumers; few_rows = few_rows; few_callers = few_callers; long = fresh_length callers rows lists };
   states = λ r x e. absurd (cc);
   drafted = λ r x e. absurd (cc);
-  links = λ l lt. zero_at callers rows (3 + l) (omega arith) (omega (arith, lt, few_lists));
-  tails = λ l lt. inl (zero_at callers rows (13 + l) (omega arith) (omega (arith, lt, few_lists)));
-  marks = λ l lt. inl (zero_at callers rows (23 + l) (omega arith) (omega (arith, lt, few_lists)));
-  bells = λ c l less lt. silent_at callers rows (43 + 10 * c + l) (omega arith) (omega (arith, less, lt, few_lists, few_consumers));
-  depth = zero_at callers rows 2 (omega arith) (omega arith);
+  links = λ l lt. word_at callers rows lists l 0 (head_of rows l) lt (omega arith) (omega arith);
+  tails = λ l lt. inl (word_at callers rows lists l 1 (tail_of rows l) lt (omega arith) (omega arith));
+  marks = λ l lt. inl (word_at callers rows lists l 2 (mark_of rows l) lt (omega arith) (omega arith));
+  bells = λ c l less lt. let few : c < 64 = omega (arith, less, few_consumers) in word_at callers rows lists l (4 + c) (bell_of rows c l) lt (omega (arith, few)) (omega arith) ∙ block_bell c few;
+  depth = refl;
   draws = record {
     top = omega arith;
     below = λ r x e. absurd (cc);
     free = λ r x e. refl;
     drawn = λ r e lt. absurd (omega (arith, lt));
     low = λ r h e. absurd (cc);
-    unset = λ r lt e. state_at callers rows r lt;
-    unlinked = λ r lt e. link_at callers rows r lt;
+    unset = λ r lt e. state_at callers rows lists r lt;
+    unlinked = λ r lt e. link_at callers rows lists r lt;
   };
   reserved = λ h. refl;
 }
 
 -- vectors that keep a fresh table
-pub fresh_kept : (s : Store) (lists rows consumers callers : ℕ) → table_in s ≡ fresh lists rows consumers callers → IsLong s → lists ≤ 10 → rows ≤ 524288 → consumers ≤ 64 → callers ≤ 4294967296 → IsKept s
-fresh_kept s lists rows consumers callers e long few_lists few_rows few_consumers few_callers = record {
+pub fresh_kept : (s : Store) (lists rows consumers callers : ℕ) → table_in s ≡ fresh lists rows consumers callers → IsLong s → rows ≤ 524288 → consumers ≤ 64 → callers ≤ 4294967296 → IsKept s
+fresh_kept s lists rows consumers callers e long few_rows few_consumers few_callers = record {
   long = long;
   queue = empty lists consumers;
-  stands = subst (λ (t : Table). Stands t (empty lists consumers)) (sym e) (fresh_stands lists rows consumers callers few_lists few_rows few_consumers few_callers);
+  stands = subst (λ (t : Table). Stands t (empty lists consumers)) (sym e) (fresh_stands lists rows consumers callers few_rows few_consumers few_callers);
 }
 
 -- copies of what stands past the end of a list
@@ -117,14 +156,10 @@ get_or-copies n i d = ⊎_elim (λ (lt : i < n). get_or-replicate n i d d lt) (�
 
 -- vectors of a fresh table
 pub fresh_table : (lists rows consumers callers : ℕ) (words : List ℕ) (drawers : List (Option ℕ)) (entries bytes : List ℕ)
-    → words ≡ fresh_words callers rows → drawers ≡ replicate rows None → entries ≡ replicate callers 0 → bytes ≡ replicate callers 0
+    → words ≡ fresh_words callers rows lists → drawers ≡ replicate rows None → entries ≡ replicate callers 0 → bytes ≡ replicate callers 0
     → listed rows lists consumers callers words drawers entries bytes ≡ fresh lists rows consumers callers
 fresh_table lists rows consumers callers words drawers entries bytes we de ee be =
     let drawer : (k : ℕ) → get_or drawers k None ≡ None = λ k. ap (λ (ds : List (Option ℕ)). get_or ds k None) de ∙ get_or-copies rows k None in
     let entry : (k : ℕ) → get_or entries k 0 ≡ 0 = λ k. ap (λ (xs : List ℕ). get_or xs k 0) ee ∙ get_or-copies callers k 0 in
     let byte : (k : ℕ) → get_or bytes k 0 ≡ 0 = λ k. ap (λ (xs : List ℕ). get_or xs k 0) be ∙ get_or-copies callers k 0 in
     λ i. record { rows = rows; lists = lists; consumers = consumers; callers = callers; words = we i; drawer = λ k. drawer k i; reserved = λ k. record { holder = k; entries = entry k i; bytes = byte k i } }
-
--- the words before those of rows, from a row of zeros
-pub front_made : (callers : ℕ) (words silent : List ℕ) → words ≡ replicate 43 0 → silent ≡ replicate 640 no_bell → set words 1 callers ++ silent ≡ fresh_front callers
-front_made callers words silent we se = ap (λ (xs : List ℕ). set xs 1 callers ++ silent) we ∙ ap (λ (xs : List ℕ). set (replicate 43 0) 1 callers ++ xs) se

@@ -14,11 +14,11 @@ use Rattle.queue_model.proofs.Depths.{depth_low, depth_reserving, depth_giving}
 use Rattle.queue_model.proofs.Owns.{own_reserving, own_giving}
 use Rattle.queue_model.proofs.SoundSteps.{sound_step}
 use Rattle.queue_model.proofs.Stable.{reserved_step}
-use Rattle.queue_model.specs.Packing.{entry_worth, pack_depth}
+use Rattle.queue_model.specs.Packing.{pack_depth, entry_worth}
 use Rattle.link_core.specs.Stands.{IsDepth, Stands}
 use Rattle.link_core.specs.Steps.{changed_by}
 use Rattle.link_core.specs.Table.{Table, but}
-use Rattle.link_core.proofs.Frames.{but_here, but_else, set_here, states_else, drafts_else, links_else, tails_else, marks_else, bells_else, draws_else, shaped_set, draft_low}
+use Rattle.link_core.proofs.Frames.{but_here, but_else, set_here, states_else, drafts_else, links_else, tails_else, marks_else, bells_else, draws_else, shaped_set, stands_low, draft_low}
 
 -- an act changes its own caller's reservation alone
 pub reserved_after_act : (t : Table) (q : Queue) (h : ℕ) (a : Act) (v : Reservation) → ((k : ℕ) → reserved_by q k ≡ t.reserved k) → reserved_by (acted q h a) h ≡ v → (k : ℕ) → reserved_by (acted q h a) k ≡ but t.reserved h v k
@@ -45,15 +45,15 @@ depth_word_kept t q h n v others s sound depth reserved =
     let shape = shaped_set t q 2 n t.drawer t.reserved s.shaped in
     record {
       sound = sound;
-      shaped = record { lists = shape.lists; consumers = shape.consumers; few_lists = shape.few_lists; few_consumers = shape.few_consumers; few_rows = shape.few_rows; few_callers = shape.few_callers; long = shape.long };
-      states = states_else t.words 2 n q (λ r. omega arith) s.states;
-      drafted = drafts_else t.words 2 n q (λ r x found w. omega (arith, draft_low r w)) s.drafted;
-      links = links_else t.words 2 n t.lists q (λ l lt. omega arith) (λ r. omega arith) s.links;
-      tails = tails_else t.words 2 n t.lists q (λ l lt. omega arith) s.tails;
-      marks = marks_else t.words 2 n t.lists q (λ l lt. omega arith) s.marks;
-      bells = bells_else t.words 2 n t.consumers t.lists q (λ c l fewer lt. omega arith) s.bells;
+      shaped = record { lists = shape.lists; consumers = shape.consumers; few_consumers = shape.few_consumers; few_rows = shape.few_rows; few_callers = shape.few_callers; long = shape.long };
+      states = states_else t.rows t.words 2 n q (stands_low t q s) (λ r less. omega arith) s.states;
+      drafted = drafts_else t.rows t.words 2 n q (λ r x found w. omega (arith, draft_low r w)) s.drafted;
+      links = links_else t.rows t.words 2 n t.lists q (stands_low t q s) (λ l lt. omega arith) (λ r less. omega arith) s.links;
+      tails = tails_else t.rows t.words 2 n t.lists q (λ l lt. omega arith) s.tails;
+      marks = marks_else t.rows t.words 2 n t.lists q (λ l lt. omega arith) s.marks;
+      bells = bells_else t.rows t.words 2 n t.consumers t.lists q (λ c l fewer lt. omega arith) s.bells;
       depth = let long = s.shaped.long in set_here t.words 2 n (omega (arith, long)) ∙ depth;
-      draws = draws_else t.words 2 n t.rows t.drawer q (omega arith) (λ r none. omega arith) (λ r none. omega arith) s.draws;
+      draws = draws_else t.rows t.words 2 n t.drawer q (omega arith) (λ r less none. omega arith) (λ r less none. omega arith) s.draws;
       reserved = reserved;
     }
 

@@ -14,6 +14,7 @@ use Rattle.queue_model.specs.Table.{changed}
 use Rattle.queue_model.proofs.KeyedLemmas.{find-here, find-past, alter-here, alter-past, position-filter_alter}
 use Rattle.queue_model.proofs.RowFacts.{row_number, row_here, row_elsewhere}
 use Rattle.queue_model.proofs.SoundSteps.{list_found}
+use Rattle.link_core.specs.Layout.{row_link_of}
 use Rattle.link_core.specs.Stands.{Points, Chain}
 
 -- Rows
@@ -116,7 +117,7 @@ chain_softens words w [] (y ∷ ys) soft chain = absurd soft
 chain_softens words w (x ∷ xs) [] soft chain = absurd soft
 chain_softens words w (x ∷ xs) (y ∷ ys) soft chain = (
   points_softens w (x ∷ xs) (y ∷ ys) soft chain.0,
-  subst (λ (n : ℕ). Chain words (slice_index words (683 + 7 * n)) ys) (sym soft.0) (chain_softens words (slice_index words (683 + 7 * x.number)) xs ys soft.3 chain.1),
+  subst (λ (n : ℕ). Chain words (slice_index words (row_link_of n)) ys) (sym soft.0) (chain_softens words (slice_index words (row_link_of x.number)) xs ys soft.3 chain.1),
 )
 
 -- a change of a row that is not deleted keeps each chain

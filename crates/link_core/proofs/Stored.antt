@@ -56,7 +56,7 @@ module _ (rows lists consumers callers : ℕ) where
 
     -- all writes together
     pub changed_same : (words' : List ℕ) (drawers' : List (Option ℕ)) (v : Reservation)
-        → words' ≡ set words (place_of_step step) (word_after (listed words drawers entries bytes) h step)
+        → words' ≡ set words (place_of_step rows step) (word_after (listed words drawers entries bytes) h step)
         → drawers_of drawers' ≡ drawer_after (drawers_of drawers) (top (listed words drawers entries bytes)) h step
         → v ≡ reserves_after (listed words drawers entries bytes) h step
         → h < length entries → h < length bytes

@@ -1,6 +1,6 @@
 -- Only defined: no contract and no proof cites these. They are the further steps of the table that is to come:
 -- unlinks, and steps on bells, on marks and on counts.
-use Rattle.std.specs.Prelude.{◌≡◌, ℕ, ◌+◌, ◌*◌, ◌<◌, ◌==◌, nat_lt, if◌then◌else◌, suc, List, [], ◌∷◌, slice_index, slice_set}
+use Rattle.std.specs.Prelude.{◌≡◌, ℕ, ◌+◌, ◌*◌, ◌^◌, ◌%◌, ◌<◌, ◌==◌, nat_lt, if◌then◌else◌, suc, List, [], ◌∷◌, slice_index, slice_set}
 use Rattle.queue_model.specs.declared.deeds.Act.TheVariants as acts
 use Rattle.queue_model.specs.declared.deeds.Deed.{Deed}
 use Rattle.queue_model.specs.declared.rows.RowState.TheVariants.{Deleted}
@@ -29,7 +29,7 @@ pub record FitsUnlink (t : Table) (at : Node) (from to : ℕ) : Type 0 where
 
 -- an exchange: a link that names another row is only read
 abbrev pub after_unlink : Table → Node → ℕ → ℕ → Table
-after_unlink t at from to = if slice_index t.words (link_of at) == suc from then record t { words = slice_set t.words (link_of at) (suc to) } else t
+after_unlink t at from to = if slice_index t.words (link_of t.rows at) == suc from then record t { words = slice_set t.words (link_of t.rows at) (suc to) } else t
 
 -- Bells: the earlier of two places stands, which is the smaller word
 
@@ -43,7 +43,7 @@ bell_word t r = place_in t r * 1048576 + r
 
 -- the table after a bell was rung: the smaller word stands
 abbrev pub after_ring : Table → ℕ → ℕ → Table
-after_ring t c r = let i = bell_of c (list_in t r) in record t { words = if nat_lt (bell_word t r) (slice_index t.words i) then slice_set t.words i (bell_word t r) else t.words }
+after_ring t c r = let i = bell_of t.rows c (list_in t r) in record t { words = if nat_lt (bell_word t r) (slice_index t.words i) then slice_set t.words i (bell_word t r) else t.words }
 
 -- the deed that the ring stands for
 abbrev pub ring_deed : ℕ → ℕ → ℕ → List Deed
@@ -55,7 +55,7 @@ FitsTakeBell t c l = (c < t.consumers) × (l < t.lists)
 
 -- the table after a bell was taken: none is there
 abbrev pub after_take_bell : Table → ℕ → ℕ → Table
-after_take_bell t c l = record t { words = slice_set t.words (bell_of c l) no_bell }
+after_take_bell t c l = record t { words = slice_set t.words (bell_of t.rows c l) no_bell }
 
 -- the deed that the taking stands for
 abbrev pub take_bell_deed : ℕ → ℕ → ℕ → List Deed
@@ -69,7 +69,7 @@ FitsMark t l place = (l < t.lists) × ((r : ℕ) × IsLinked t r × (list_in t r
 
 -- the table after a mark was moved: the greater place stands
 abbrev pub after_mark : Table → ℕ → ℕ → Table
-after_mark t l place = record t { words = if nat_lt (slice_index t.words (mark_of l)) place then slice_set t.words (mark_of l) place else t.words }
+after_mark t l place = record t { words = if nat_lt (slice_index t.words (mark_of t.rows l)) place then slice_set t.words (mark_of t.rows l) place else t.words }
 
 -- Counts: one more, and back to none
 
@@ -77,10 +77,10 @@ after_mark t l place = record t { words = if nat_lt (slice_index t.words (mark_o
 abbrev pub FitsCount : Table → ℕ → Type 0
 FitsCount t l = l < t.lists
 
--- the table after the count of a list went up by one
+-- the table after the count of a list went up by one; behind its greatest number it begins again at 0
 abbrev pub after_count : Table → ℕ → Table
-after_count t l = record t { words = slice_set t.words (count_of l) (slice_index t.words (count_of l) + 1) }
+after_count t l = record t { words = slice_set t.words (count_of t.rows l) ((slice_index t.words (count_of t.rows l) + 1) % 2 ^ 64) }
 
 -- the table after the count of a list was set back to none
 abbrev pub after_reset : Table → ℕ → Table
-after_reset t l = record t { words = slice_set t.words (count_of l) 0 }
+after_reset t l = record t { words = slice_set t.words (count_of t.rows l) 0 }

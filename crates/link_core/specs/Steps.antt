@@ -18,6 +18,7 @@ use Rattle.queue_model.specs.declared.steps.WordName.{WordName}
 use Rattle.queue_model.specs.declared.steps.WordName.TheVariants as names
 use Rattle.queue_model.specs.History.{deeds_of}
 use Rattle.queue_model.specs.Table.{CanGive, most_bytes, most_entries, with_more, with_less}
+use Rattle.link_core.specs.declared.places.TheConstants.{TOP, DEPTH}
 use Rattle.link_core.specs.Layout.{link_of, tail_of, state_of, draft_of, place_of_word}
 use Rattle.queue_model.specs.Packing.{pack_state, pack_node, entry_worth}
 use Rattle.link_core.specs.Table.{Table, top, but, IsLinked, IsNode, list_of_node}
@@ -131,25 +132,25 @@ Fits t h (Link r node) = FitsLink t h r node
 Fits t h (HelpTail l from to) = FitsHelpTo t l from to
 Fits t h (Load name) = HasWord t name
 Fits t h (State r change from) = FitsState t h r change from
-Fits t h (Reserve size) = (size ≤ most_bytes) × (slice_index t.words 2 / entry_worth < most_entries)
+Fits t h (Reserve size) = (size ≤ most_bytes) × (slice_index t.words DEPTH / entry_worth < most_entries)
 Fits t h (GiveBack size) = CanGive (t.reserved h) size
 
 -- What a step shows
 
--- the place of the word that a step reads or changes
-abbrev pub place_of_step : Step → ℕ
-place_of_step Draw = 0
-place_of_step (Draft r w value) = draft_of r w
-place_of_step (Link r node) = link_of node
-place_of_step (HelpTail l from to) = tail_of l
-place_of_step (Load name) = place_of_word name
-place_of_step (State r change from) = state_of r
-place_of_step (Reserve size) = 2
-place_of_step (GiveBack size) = 2
+-- the place of the word that a step reads or changes, in a table of so many rows
+abbrev pub place_of_step : ℕ → Step → ℕ
+place_of_step rows Draw = TOP
+place_of_step rows (Draft r w value) = draft_of r w
+place_of_step rows (Link r node) = link_of rows node
+place_of_step rows (HelpTail l from to) = tail_of rows l
+place_of_step rows (Load name) = place_of_word rows name
+place_of_step rows (State r change from) = state_of r
+place_of_step rows (Reserve size) = DEPTH
+place_of_step rows (GiveBack size) = DEPTH
 
 -- the word before the step
 abbrev pub shown : Table → Step → ℕ
-shown t s = slice_index t.words (place_of_step s)
+shown t s = slice_index t.words (place_of_step t.rows s)
 
 -- Whether the step changes its word. An exchange that shows another word than the expected one is a load, and so is a
 -- draw where no row is left.
@@ -188,8 +189,8 @@ word_after t h (Link r node) = suc r
 word_after t h (HelpTail l from to) = pack_node to
 word_after t h (Load name) = shown t (Load name)
 word_after t h (State r change from) = pack_state (goes_to h change)
-word_after t h (Reserve size) = slice_index t.words 2 + (entry_worth + size)
-word_after t h (GiveBack size) = slice_index t.words 2 - (entry_worth + size)
+word_after t h (Reserve size) = slice_index t.words DEPTH + (entry_worth + size)
+word_after t h (GiveBack size) = slice_index t.words DEPTH - (entry_worth + size)
 
 -- the drawer of each row afterwards: a draw makes the caller that of the next row, and a link ends that
 abbrev pub drawer_after : (ℕ → Option ℕ) → ℕ → ℕ → Step → ℕ → Option ℕ
@@ -207,7 +208,7 @@ reserves_after t h step = t.reserved h
 
 -- the table that a step leaves where it changes its word
 abbrev pub changed_by : Table → ℕ → Step → Table
-changed_by t h s = record t { words = slice_set t.words (place_of_step s) (word_after t h s); drawer = drawer_after t.drawer (top t) h s; reserved = but t.reserved h (reserves_after t h s) }
+changed_by t h s = record t { words = slice_set t.words (place_of_step t.rows s) (word_after t h s); drawer = drawer_after t.drawer (top t) h s; reserved = but t.reserved h (reserves_after t h s) }
 
 -- the table afterwards
 abbrev pub moved : Table → ℕ → Step → Table

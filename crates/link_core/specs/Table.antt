@@ -4,6 +4,7 @@ use Rattle.queue_model.specs.declared.queues.Reservation.{Reservation}
 use Rattle.queue_model.specs.declared.steps.DraftWord.TheVariants as drafts
 use Rattle.queue_model.specs.declared.steps.Node.{Node}
 use Rattle.queue_model.specs.declared.steps.Node.TheVariants as nodes
+use Rattle.link_core.specs.declared.places.TheConstants.{TOP}
 use Rattle.link_core.specs.Layout.{draft_of}
 
 -- The words, and beside them who drew each row that is not linked, and what each caller has reserved.
@@ -18,7 +19,7 @@ pub record Table : Type 0 where
 
 -- how many rows were drawn
 abbrev pub top : Table → ℕ
-top t = slice_index t.words 0
+top t = slice_index t.words TOP
 
 -- another value at one number
 abbrev pub but : {X : Type 0} → (ℕ → X) → ℕ → X → ℕ → X

@@ -1,6 +1,6 @@
 //! The vectors of a table in which nothing has happened.
-ghost use Rattle.std.specs.Prelude.{◌≡◌, ◌≤◌, ℕ, IfOk, replicate};
-ghost use Rattle.link_core.specs.Fresh.{fresh, fresh_words};
+ghost use Rattle.std.specs.Prelude.{◌≡◌, ◌++◌, ◌≤◌, ℕ, IfOk, OnOk, replicate};
+ghost use Rattle.link_core.specs.Fresh.{blank_rows, empty_lists, fresh, fresh_words};
 ghost use Rattle.link_core.specs.Kept.{IsLong, table_in};
 
 use crate::store::Store;
@@ -9,17 +9,35 @@ use std::alloc::{AllocError, Global};
 /// The word of a bell that is not rung.
 const NO_BELL: u64 = 18_446_744_073_709_551_615;
 
-/// All words: no row is drawn, all lists are empty, and no bell is rung.
-fn fresh_words(alloc: Global, callers: u64, rows: u64) -> Result<Vec<u64>, AllocError>
-    ensures { IfOk result (λ words. words.items ≡ fresh_words callers rows) }
+/// Adds the words of so many rows that nobody drew.
+fn add_rows(words: &mut Vec<u64>, rows: u64) -> Result<(), AllocError>
+    ensures { OnOk result (words.new.items ≡ words.old.items ++ blank_rows rows) }
 {
-    let mut words = vec![in alloc; 0; 43]?;
-    words[1] = callers;
-    let silent = vec![in alloc; NO_BELL; 640]?;
-    words.extend_from_slice(&silent)?;
     for _ in 0..rows {
         words.extend_from_slice(&[0, 1, 0, 0, 0, 0, 0])?;
     }
+    Ok(())
+}
+
+/// Adds the words of so many lists that have no row.
+fn add_lists(words: &mut Vec<u64>, lists: u32) -> Result<(), AllocError>
+    ensures { OnOk result (words.new.items ≡ words.old.items ++ empty_lists lists) }
+{
+    for _ in 0..lists {
+        words.extend_from_slice(&[0, 0, 0, 0])?;
+        words.extend_from_slice(&[NO_BELL; 64])?;
+    }
+    Ok(())
+}
+
+/// All words: no row is drawn, all lists are empty, and no bell is rung.
+fn fresh_words(alloc: Global, callers: u64, rows: u64, lists: u32) -> Result<Vec<u64>, AllocError>
+    ensures { IfOk result (λ words. words.items ≡ fresh_words callers rows lists) }
+{
+    let mut words = Vec::new(alloc);
+    words.extend_from_slice(&[0, callers, 0])?;
+    add_rows(&mut words, rows)?;
+    add_lists(&mut words, lists)?;
     Ok(words)
 }
 
@@ -51,7 +69,7 @@ impl Store {
             lists,
             consumers,
             callers,
-            words: fresh_words(alloc, callers, rows)?,
+            words: fresh_words(alloc, callers, rows, lists)?,
             drawers: no_drawers(alloc, rows)?,
             entries: vec![in alloc; 0; callers as usize]?,
             bytes: vec![in alloc; 0; callers as usize]?,

@@ -1,16 +1,19 @@
 //! Whether a step fits the words.
 ghost use Rattle.std.specs.Prelude.{◌≡◌, ◌/◌, ◌<◌, ◌≤◌, ◌^◌, ◌↔◌, ℕ, IsTrue, length, slice_index};
 ghost use Rattle.queue_model.specs.Table.{most_entries};
+ghost use Rattle.link_core.specs.declared.places.TheConstants.{DEPTH};
 ghost use Rattle.link_core.specs.Kept.{IsKept, table_in};
 ghost use Rattle.link_core.specs.Layout.{draft_of};
 ghost use Rattle.queue_model.specs.Packing.{entry_worth};
 ghost use Rattle.link_core.specs.Steps.{Fits, FitsHelp, FitsHelpTo, FitsBehind, FitsLink, FitsState, GoesFrom, HasWord, IsBehind, IsDrawnBy, IsPackable, place_behind, place_in};
 ghost use Rattle.link_core.specs.Table.{IsLinked, IsNode, list_of_node};
 
-use crate::places::{ENTRY_WORTH, draft_place};
+use crate::places::{DEPTH, TOP, draft_place};
 use crate::store::Store;
 use byte_lists::MOST_BYTES;
-use queue_model::{Change, DraftWord, MOST_ENTRIES, Node, RowState, Step, WordName, fits_mask};
+use queue_model::{
+    Change, DraftWord, ENTRY_WORTH, MOST_ENTRIES, Node, RowState, Step, WordName, fits_mask,
+};
 
 /// Whether a change goes on from this state, for this caller.
 fn goes_from(caller: u64, change: Change, from: RowState) -> bool
@@ -55,7 +58,7 @@ impl Store {
         requires { IsKept self.now }
         ensures { IsTrue result ↔ IsLinked (table_in self.now) row }
     {
-        row < self.word(0) && self.drawer(row).is_none()
+        row < self.word(TOP) && self.drawer(row).is_none()
     }
 
     /// Whether the caller drew this row, and has not linked it.
@@ -173,9 +176,9 @@ impl Store {
     /// Whether the depth has fewer entries than a queue may have.
     fn has_room(&self) -> bool
         requires { IsKept self.now }
-        ensures { IsTrue result ↔ (slice_index self.now.words.items 2 / entry_worth < most_entries) }
+        ensures { IsTrue result ↔ (slice_index self.now.words.items DEPTH / entry_worth < most_entries) }
     {
-        self.word(2) / ENTRY_WORTH < MOST_ENTRIES
+        self.word(DEPTH) / ENTRY_WORTH < MOST_ENTRIES
     }
 
     /// Whether the step of a caller fits the words.

@@ -1,5 +1,5 @@
 //! The law of lists of steps, and what it is made of. Each is the contract of a function with no body.
-ghost use Rattle.link_core.specs.Laws.{FreshLaw, Law, LinkNames, StepLaw};
+ghost use Rattle.link_core.specs.Laws.{FreshLaw, Law, LinkNames, LinksPoint, StepLaw};
 
 /// After every list of steps that fit, from a fresh table on, the deeds of the steps are a legal history, and
 /// the words stand for the state after it.
@@ -22,4 +22,9 @@ pub fn each_step_is_its_deed()
 /// before that one is deleted.
 pub fn a_link_names_a_later_row()
     ensures { LinkNames }
+{}
+
+/// The link of a list's head leads into the rows of the list, and the link of each row into those behind it.
+pub fn each_link_leads_into_its_list()
+    ensures { LinksPoint }
 {}

@@ -1,72 +1,163 @@
 //! Where words stand among all words, and how what they stand for is packed.
+//!
+//! Three words of the whole table come first, then the words of each row, and behind the last row the words of
+//! each list.
 ghost use Rattle.std.specs.Prelude.{◌≡◌, ◌<◌, ◌^◌, ℕ};
-ghost use Rattle.link_core.specs.Layout.{draft_of, link_of, place_of_word};
+ghost use Rattle.link_core.specs.Layout.{draft_of, head_of, link_of, place_of_word, row_link_of, state_of, tail_of, words_of};
 ghost use Rattle.queue_model.specs.Packing.{pack_node, pack_state};
 ghost use Rattle.link_core.specs.Steps.{place_of_step};
+ghost use Rattle.queue_model.specs.declared.rows.RowState.{RowState};
 
 use queue_model::{DraftWord, Node, RowState, Step, WordName};
 
-/// The worth of an entry in the word of the depth; bytes count one each.
-pub const ENTRY_WORTH: u64 = 1_099_511_627_776;
+/// The word of how many rows were drawn.
+pub const TOP: usize = 0;
 
-/// Where the link of a node stands.
-pub fn link_place(node: Node) -> usize
-    requires { link_of node < 4294967296 }
-    ensures { result ≡ link_of node }
+/// The word of how many callers were made.
+pub const CALLERS: usize = 1;
+
+/// The word of the depth.
+pub const DEPTH: usize = 2;
+
+/// Where the words of the first row begin. The link of a row is the first of its words.
+pub const ROWS_FROM: usize = 3;
+
+/// How many words each row has.
+pub const ROW_WORDS: usize = 7;
+
+/// Where the state word stands among the words of its row.
+pub const STATE_AT: usize = 1;
+
+/// Where the mask stands among the words of its row.
+pub const MASK_AT: usize = 2;
+
+/// Where the place in its list stands among the words of a row.
+pub const PLACE_AT: usize = 3;
+
+/// Where the identity stands among the words of its row.
+pub const IDENT_AT: usize = 4;
+
+/// Where the size stands among the words of its row.
+pub const SIZE_AT: usize = 5;
+
+/// Where the number of its list stands among the words of a row.
+pub const LIST_AT: usize = 6;
+
+/// How many words each list has: link, tail, mark, count, and 64 bells. The link of the head is the first.
+pub const LIST_WORDS: usize = 68;
+
+/// Where the tail stands among the words of its list.
+pub const TAIL_AT: usize = 1;
+
+/// Where the mark stands among the words of its list.
+pub const MARK_AT: usize = 2;
+
+/// Where the count stands among the words of its list.
+pub const COUNT_AT: usize = 3;
+
+/// Where the first of the bells stands among the words of a list.
+pub const BELLS_AT: usize = 4;
+
+/// How many words a table of so many rows and lists has.
+pub fn words_of(rows: u64, lists: u32) -> usize
+    requires { words_of rows lists < 2 ^ 63 }
+    ensures { result ≡ words_of rows lists }
+{
+    ROWS_FROM + ROW_WORDS * rows as usize + LIST_WORDS * lists as usize
+}
+
+/// Where the words of a row begin: the place of its link.
+pub fn row_place(row: u64) -> usize
+    requires { row_link_of row < 2 ^ 63 }
+    ensures { result ≡ row_link_of row }
+{
+    ROWS_FROM + ROW_WORDS * row as usize
+}
+
+/// Where the words of a list begin, behind so many rows: the place of its head's link.
+pub fn list_place(rows: u64, list: u32) -> usize
+    requires { head_of rows list < 2 ^ 63 }
+    ensures { result ≡ head_of rows list }
+{
+    ROWS_FROM + ROW_WORDS * rows as usize + LIST_WORDS * list as usize
+}
+
+/// Where the state word of a row stands.
+pub fn state_place(row: u64) -> usize
+    requires { state_of row < 2 ^ 63 }
+    ensures { result ≡ state_of row }
+{
+    row_place(row) + STATE_AT
+}
+
+/// Where the tail of a list stands, behind so many rows.
+pub fn tail_place(rows: u64, list: u32) -> usize
+    requires { tail_of rows list < 2 ^ 63 }
+    ensures { result ≡ tail_of rows list }
+{
+    list_place(rows, list) + TAIL_AT
+}
+
+/// Where the link of a node stands, in a table of so many rows.
+pub fn link_place(rows: u64, node: Node) -> usize
+    requires { link_of rows node < 2 ^ 63 }
+    ensures { result ≡ link_of rows node }
 {
     match node {
-        Node::Head(list) => 3 + list as usize,
-        Node::Row(row) => 683 + 7 * row as usize,
+        Node::Head(list) => list_place(rows, list),
+        Node::Row(row) => row_place(row),
     }
 }
 
 /// Where a draft word of a row stands.
 pub fn draft_place(row: u64, word: DraftWord) -> usize
-    requires { draft_of row word < 4294967296 }
+    requires { draft_of row word < 2 ^ 63 }
     ensures { result ≡ draft_of row word }
 {
     match word {
-        DraftWord::Mask => 685 + 7 * row as usize,
-        DraftWord::Place => 686 + 7 * row as usize,
-        DraftWord::Ident => 687 + 7 * row as usize,
-        DraftWord::Size => 688 + 7 * row as usize,
-        DraftWord::List => 689 + 7 * row as usize,
+        DraftWord::Mask => row_place(row) + MASK_AT,
+        DraftWord::Place => row_place(row) + PLACE_AT,
+        DraftWord::Ident => row_place(row) + IDENT_AT,
+        DraftWord::Size => row_place(row) + SIZE_AT,
+        DraftWord::List => row_place(row) + LIST_AT,
     }
 }
 
-/// Where the word of a name stands.
-pub fn word_place(name: WordName) -> usize
-    requires { place_of_word name < 4294967296 }
-    ensures { result ≡ place_of_word name }
+/// Where the word of a name stands, in a table of so many rows.
+pub fn word_place(rows: u64, name: WordName) -> usize
+    requires { place_of_word rows name < 2 ^ 63 }
+    ensures { result ≡ place_of_word rows name }
 {
     match name {
-        WordName::Top => 0,
-        WordName::Callers => 1,
-        WordName::Depth => 2,
-        WordName::Link(node) => link_place(node),
-        WordName::Tail(list) => 13 + list as usize,
-        WordName::Mark(list) => 23 + list as usize,
-        WordName::Count(list) => 33 + list as usize,
-        WordName::Bell { consumer, list } => 43 + 10 * consumer as usize + list as usize,
-        WordName::State(row) => 684 + 7 * row as usize,
+        WordName::Top => TOP,
+        WordName::Callers => CALLERS,
+        WordName::Depth => DEPTH,
+        WordName::Link(node) => link_place(rows, node),
+        WordName::Tail(list) => tail_place(rows, list),
+        WordName::Mark(list) => list_place(rows, list) + MARK_AT,
+        WordName::Count(list) => list_place(rows, list) + COUNT_AT,
+        WordName::Bell { consumer, list } => {
+            list_place(rows, list) + BELLS_AT + consumer as usize
+        }
+        WordName::State(row) => state_place(row),
         WordName::Draft { row, word } => draft_place(row, word),
     }
 }
 
-/// Where the word of a step stands.
-pub fn step_place(step: Step) -> usize
-    requires { place_of_step step < 4294967296 }
-    ensures { result ≡ place_of_step step }
+/// Where the word of a step stands, in a table of so many rows.
+pub(crate) fn step_place(rows: u64, step: Step) -> usize
+    requires { place_of_step rows step < 2 ^ 63 }
+    ensures { result ≡ place_of_step rows step }
 {
     match step {
-        Step::Draw => 0,
+        Step::Draw => TOP,
         Step::Draft { row, word, .. } => draft_place(row, word),
-        Step::Link { after, .. } => link_place(after),
-        Step::HelpTail { list, .. } => 13 + list as usize,
-        Step::Load { word } => word_place(word),
-        Step::State { row, .. } => 684 + 7 * row as usize,
-        Step::Reserve { .. } => 2,
-        Step::GiveBack { .. } => 2,
+        Step::Link { after, .. } => link_place(rows, after),
+        Step::HelpTail { list, .. } => tail_place(rows, list),
+        Step::Load { word } => word_place(rows, word),
+        Step::State { row, .. } => state_place(row),
+        Step::Reserve { .. } => DEPTH,
+        Step::GiveBack { .. } => DEPTH,
     }
 }
 
@@ -81,6 +172,23 @@ pub fn state_word(state: RowState) -> u64
         RowState::Deleted => 3,
         RowState::Locked(holder) => 8 * holder + 4,
         RowState::Unlocked(holder) => 8 * holder + 5,
+    }
+}
+
+/// The state that a word is of. A word of no state is taken for one of them.
+pub fn state_of(word: u64) -> RowState
+    ensures { (s : RowState) → word ≡ pack_state s → result ≡ s }
+{
+    if word == 1 {
+        RowState::Available
+    } else if word == 2 {
+        RowState::Dequeued
+    } else if word == 3 {
+        RowState::Deleted
+    } else if word % 8 == 4 {
+        RowState::Locked(word / 8)
+    } else {
+        RowState::Unlocked(word / 8)
     }
 }
 

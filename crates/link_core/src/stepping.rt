@@ -35,8 +35,8 @@ impl Model for Words {
 }
 
 impl Words {
-    /// A table in which nothing has happened, of at most 10 lists, 524,288 rows, 64 consumers and 2^32 callers.
-    /// Its memory grows with the rows and with the callers. Refuses only for want of memory.
+    /// A table in which nothing has happened, of at most 524,288 rows, 64 consumers and 2^32 callers.
+    /// Its memory grows with the rows, the lists and the callers. Refuses only for want of memory.
     pub fn fresh(
         alloc: Global,
         lists: u32,
@@ -44,7 +44,6 @@ impl Words {
         consumers: u32,
         callers: u64,
     ) -> Result<Words, NoMemory>
-        requires lists { lists ≤ 10 }
         requires rows { rows ≤ 524288 }
         requires consumers { consumers ≤ 64 }
         requires callers { callers ≤ 4294967296 }

@@ -7,9 +7,9 @@ ghost use Rattle.link_core.specs.Table.{IsLinked};
 ghost use Rattle.queue_model.specs.declared.queues.Reservation.{Reservation};
 ghost use Rattle.queue_model.specs.Table.{with_less, with_more};
 
-use crate::places::{ENTRY_WORTH, node_word, state_word, step_place};
+use crate::places::{TOP, node_word, state_word, step_place};
 use crate::stepping::Unfit;
-use queue_model::{Change, DraftWord, Reservation, RowState, Step};
+use queue_model::{Change, DraftWord, ENTRY_WORTH, Reservation, RowState, Step};
 
 /// The words in their order, the drawer of each row that is not linked, and what each caller has reserved.
 #[derive(Debug, Drop)]
@@ -102,7 +102,7 @@ impl Store {
         ensures { result ≡ shown (table_in self.now) step }
     {
         let _ = caller;
-        self.word(step_place(step))
+        self.word(step_place(self.rows, step))
     }
 
     /// Whether a step changes its word.
@@ -185,9 +185,9 @@ impl Store {
     {
         let reserved = self.reserves_after(caller, step);
         let word = self.word_after(caller, step);
-        let next = self.word(0);
+        let next = self.word(TOP);
         set_drawer(&mut self.drawers, next, caller, step);
-        self.words[step_place(step)] = word;
+        self.words[step_place(self.rows, step)] = word;
         self.entries[caller as usize] = reserved.entries;
         self.bytes[caller as usize] = reserved.bytes;
     }

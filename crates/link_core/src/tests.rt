@@ -189,17 +189,17 @@ fn what_does_not_fit(rt: HostRuntime) -> Result<(), Fail> {
 
 #[test]
 fn ample(rt: HostRuntime) -> Result<(), Fail> {
-    let mut words = Words::fresh(rt.alloc(), 10, 4, 64, 3)?;
+    let mut words = Words::fresh(rt.alloc(), 12, 4, 64, 3)?;
     let loads = [
         (load(WordName::Top), 0),
         (load(WordName::Callers), 3),
         (load(WordName::Depth), 0),
-        (load(WordName::Mark(9)), 0),
-        (load(WordName::Count(9)), 0),
+        (load(WordName::Mark(11)), 0),
+        (load(WordName::Count(11)), 0),
         (
             load(WordName::Bell {
                 consumer: 63,
-                list: 9,
+                list: 11,
             }),
             18_446_744_073_709_551_615,
         ),

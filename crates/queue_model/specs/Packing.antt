@@ -1,5 +1,6 @@
 -- how what a word of a linked queue stands for is packed into a number
 use Rattle.std.specs.Prelude.{ℕ, ◌+◌, ◌*◌, suc, Option, Some, None}
+use Rattle.queue_model.specs.declared.limits.TheConstants.{ENTRY_WORTH, PLACE_WORTH}
 use Rattle.queue_model.specs.declared.queues.Bell as ring
 use Rattle.queue_model.specs.declared.rows.RowState.{RowState}
 use Rattle.queue_model.specs.declared.rows.RowState.TheVariants.{Available, Locked, Unlocked, Dequeued, Deleted}
@@ -26,11 +27,11 @@ no_bell = 18446744073709551615
 -- the word of a bell; None where it is silent
 abbrev pub pack_bell : Option ring.Bell → ℕ
 pack_bell None = no_bell
-pack_bell (Some b) = b.place * 1048576 + b.row
+pack_bell (Some b) = b.place * PLACE_WORTH + b.row
 
 -- the worth of an entry in the word of the depth; bytes count one each
 abbrev pub entry_worth : ℕ
-entry_worth = 1099511627776
+entry_worth = ENTRY_WORTH
 
 -- the word of a depth of so many entries and bytes
 abbrev pub pack_depth : ℕ → ℕ → ℕ

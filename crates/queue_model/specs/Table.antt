@@ -1,6 +1,8 @@
 -- the table of acts: when an act of a caller has a step, and what the step does
 use Rattle.std.specs.Prelude.{◌≡◌, ℕ, ◌+◌, ◌-◌, ◌*◌, ◌^◌, ◌<◌, ◌≤◌, ◌==◌, nat_lt, not, if◌then◌else◌, Option, Some, None, [], ◌∷◌, ◌++◌, filter, unwrap_or}
 use Rattle.std.specs.Option.{option_map}
+use Rattle.byte_lists.specs.declared.limits.TheConstants.{MOST_BYTES}
+use Rattle.queue_model.specs.declared.limits.TheConstants.{MOST_ENTRIES}
 use Rattle.queue_model.specs.declared.rows.Row.{Row}
 use Rattle.queue_model.specs.declared.rows.RowState.{RowState}
 use Rattle.queue_model.specs.declared.rows.RowState.TheVariants.{Available, Locked, Unlocked, Dequeued, Deleted}
@@ -15,11 +17,11 @@ use Rattle.queue_model.specs.State.{is_row, row_at, IsIn, list_at, place_at, siz
 
 -- the greatest size of a message, in bytes
 abbrev pub most_bytes : ℕ
-most_bytes = 1048576
+most_bytes = MOST_BYTES
 
 -- the greatest number of entries of a queue
 abbrev pub most_entries : ℕ
-most_entries = 524288
+most_entries = MOST_ENTRIES
 
 -- When an act has a step
 

@@ -1,5 +1,5 @@
 //! Texts that are selectors, each with its tree, by hand from the grammar.
-use crate::{CompareOp, Expr, MathOp, read};
+use crate::{CompareOp, Expr, MathOp, read, text};
 use std::fmt::Write;
 use std::str::from_utf8;
 use std::test::Fail;
@@ -183,5 +183,16 @@ fn reads_trees(rt: HostRuntime) -> Result<(), Fail> {
         show(&mut shown, selector.expr())?;
         assert_eq!(rt; shown.as_str(), tree, "of {text}");
     }
+    Ok(())
+}
+
+/// With ample memory a selector is read, and written back.
+#[test]
+fn ample(rt: HostRuntime) -> Result<(), Fail> {
+    let selector = read(rt.alloc(), "a LIKE 'b'")?;
+    assert_eq!(rt;
+        text(rt.alloc(), &selector)?.as_slice(),
+        b"a LIKE 'b'".as_slice()
+    );
     Ok(())
 }

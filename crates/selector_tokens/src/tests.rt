@@ -120,3 +120,12 @@ fn stops(rt: HostRuntime) {
     assert_eq!(rt; cut.next(alloc).err().expect(&rt, "a fault"), bad);
     assert_eq!(rt; cut.next(alloc).err().expect(&rt, "a fault"), bad);
 }
+
+/// With ample memory a name and a string come, which are what takes memory.
+#[test]
+fn ample(rt: HostRuntime) {
+    let mut lexer = Lexer::of("a 'b'");
+    for _ in 0..2 {
+        assert!(rt; lexer.next(rt.alloc()).ok().expect(&rt, "memory").is_some());
+    }
+}

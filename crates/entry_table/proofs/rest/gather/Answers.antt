@@ -6,6 +6,7 @@ use mathlib.Core.Option.{some}
 use lib.ListN.{get_elem?}
 use Rattle.link_core.specs.Stands.{IsDrafted}
 use Rattle.queue_model.specs.State.{place_at}
+use Rattle.link_core.specs.Layout.{row_link_of, state_of, head_of}
 use Rattle.entry_table.specs.Resting.{Walking, Rested, IsFor, is_live}
 use Rattle.std.proofs.Common.{Vec, Global}
 use Rattle.entry_table.specs.Rule.{Carries}
@@ -17,44 +18,34 @@ use Rattle.entry_table.proofs.rest.gather.Goals.{then-word-ne3, else-word-ne3}
 pub rows-init : goal.rows-init
 rows-init g c = record {
   walking = λ q legible low rested. subst (λ (n : ℕ). Walking g.C.Freight.goods (slots_items c.args.closed.now.words) q c.args.list n c.args.rows c.args.rest.now.items c.args.parcels.now.items)
-      (read (slots_items c.args.closed.now.words) (3 + c.args.list) (3 + c.args.list) c.word-link.result refl c.word-link.ensures)
+      (read (slots_items c.args.closed.now.words) _ (head_of c.args.rows c.args.list) c.word-link.result c.list_place.ensures c.word-link.ensures)
       (walk_begins g.C.Freight.goods (slots_items c.args.closed.now.words) c.args.rows q c.args.list c.args.rest.now.items c.args.parcels.now.items legible low (subst (λ (k : ℕ). Rested g.C.Freight.goods q k c.args.rest.now.items c.args.parcels.now.items) (let e : c.args.list + 1 ≡ suc c.args.list = omega arith in e) rested));
   room = refl;
 }
 
 pub word-link-requires : goal.word-link-requires
-word-link-requires g c = let r = c.requires.at in let few = r.1.lists in let low = r.2 in let long = c.requires.words.1 in (omega (arith, few, low, long), c.requires.words.0)
+word-link-requires g c = let is = c.list_place.ensures in let long = c.requires.words.1 in (omega (arith, is, long), c.requires.words.0)
 
-pub overflow_mul-at : goal.overflow_mul-at
-overflow_mul-at g c =
+pub row_place-at-requires : goal.row_place-at-requires
+row_place-at-requires g c =
     let r = c.requires.at in let f = faces g.C.Freight.goods (slots_items c.args.closed.now.words) c.args.rows r.0 r.1 c.args.list c.rows.link c.rows.left c.rows.rest.items c.rows.parcels.items (c.rows.invariant.walking r.0 r.1 r.2 r.3) c.rows-test.true in
-    let low = f.low in let small = c.requires.small in let n = f.number in let long = c.requires.words.1 in omega (arith, low, small, n)
-
-pub overflow_add-at : goal.overflow_add-at
-overflow_add-at g c =
-    let r = c.requires.at in let f = faces g.C.Freight.goods (slots_items c.args.closed.now.words) c.args.rows r.0 r.1 c.args.list c.rows.link c.rows.left c.rows.rest.items c.rows.parcels.items (c.rows.invariant.walking r.0 r.1 r.2 r.3) c.rows-test.true in
-    let low = f.low in let small = c.requires.small in let n = f.number in let long = c.requires.words.1 in omega (arith, low, small, n)
-
-pub overflow_add-at-in-rows : goal.overflow_add-at-in-rows
-overflow_add-at-in-rows g c =
-    let r = c.requires.at in let f = faces g.C.Freight.goods (slots_items c.args.closed.now.words) c.args.rows r.0 r.1 c.args.list c.rows.link c.rows.left c.rows.rest.items c.rows.parcels.items (c.rows.invariant.walking r.0 r.1 r.2 r.3) c.rows-test.true in
-    let low = f.low in let small = c.requires.small in let n = f.number in let long = c.requires.words.1 in omega (arith, low, small, n)
+    let low = f.low in let small = c.requires.small in let n = f.number in omega (arith, low, small, n)
 
 pub word-word-requires : goal.word-word-requires
 word-word-requires g c =
     let r = c.requires.at in let f = faces g.C.Freight.goods (slots_items c.args.closed.now.words) c.args.rows r.0 r.1 c.args.list c.rows.link c.rows.left c.rows.rest.items c.rows.parcels.items (c.rows.invariant.walking r.0 r.1 r.2 r.3) c.rows-test.true in
-    let low = f.low in let small = c.requires.small in let n = f.number in let long = c.requires.words.1 in (omega (arith, low, n, long), c.requires.words.0)
+    let low = f.low in let small = c.requires.small in let n = f.number in let long = c.requires.words.1 in let is = c.row_place-at.ensures in (omega (arith, low, n, long, is), c.requires.words.0)
 
 pub word-link-requires-in-rows : goal.word-link-requires-in-rows
 word-link-requires-in-rows g c =
     let r = c.requires.at in let f = faces g.C.Freight.goods (slots_items c.args.closed.now.words) c.args.rows r.0 r.1 c.args.list c.rows.link c.rows.left c.rows.rest.items c.rows.parcels.items (c.rows.invariant.walking r.0 r.1 r.2 r.3) c.rows-test.true in
-    let low = f.low in let small = c.requires.small in let n = f.number in let long = c.requires.words.1 in (omega (arith, low, n, long), c.requires.words.0)
+    let low = f.low in let small = c.requires.small in let n = f.number in let long = c.requires.words.1 in let is = c.row_place-at.ensures in (omega (arith, low, n, long, is), c.requires.words.0)
 
 pub unload-cargo-requires : goal.unload-cargo-requires
 unload-cargo-requires g c =
     let r = c.requires.at in let f = faces g.C.Freight.goods (slots_items c.args.closed.now.words) c.args.rows r.0 r.1 c.args.list c.rows.link c.rows.left c.rows.rest.items c.rows.parcels.items (c.rows.invariant.walking r.0 r.1 r.2 r.3) c.rows-test.true in
     let low = f.low in let small = c.requires.small in let n = f.number in let long = c.requires.words.1 in
-    let word = read (slots_items c.args.closed.now.words) (683 + 7 * (c.rows.link - 1) + 1) (684 + 7 * f.x.number) c.word-word.result (omega (arith, n)) c.word-word.ensures in
+    let word = read (slots_items c.args.closed.now.words) _ (state_of f.x.number) c.word-word.result (let is = c.row_place-at.ensures in omega (arith, n, is)) c.word-word.ensures in
     let row : c.rows.link - 1 ≡ f.x.number = omega (arith, n) in
     let lives = live_word f.x.state c.word-word.result (sym word ∙ f.word) c.if-word-ne3.true in
     let w = (f.taken lives).0 in record { there = (w.0, ap (get_elem? c.rows.parcels.items) row ∙ w.1) }
@@ -73,7 +64,7 @@ pub push_reserved-requires : goal.push_reserved-requires
 push_reserved-requires g c =
     let r = c.requires.at in let f = faces g.C.Freight.goods (slots_items c.args.closed.now.words) c.args.rows r.0 r.1 c.args.list c.rows.link c.rows.left c.rows.rest.items c.rows.parcels.items (c.rows.invariant.walking r.0 r.1 r.2 r.3) c.rows-test.true in
     let low = f.low in let small = c.requires.small in let n = f.number in let long = c.requires.words.1 in
-    let word = read (slots_items c.args.closed.now.words) (683 + 7 * (c.rows.link - 1) + 1) (684 + 7 * f.x.number) c.word-word.result (omega (arith, n)) c.word-word.ensures in
+    let word = read (slots_items c.args.closed.now.words) _ (state_of f.x.number) c.word-word.result (let is = c.row_place-at.ensures in omega (arith, n, is)) c.word-word.ensures in
     let row : c.rows.link - 1 ≡ f.x.number = omega (arith, n) in
     let lives = live_word f.x.state c.word-word.result (sym word ∙ f.word) c.if-word-ne3.true in
     let room = f.room lives in let ok = c.rows.rest.ok in let same = c.rows.invariant.room in let wide = r.4 in omega (arith, room, ok, same, wide)
@@ -84,9 +75,9 @@ rows-preserved g c = elim c.if-word-ne3.branch [
     walking = λ q legible low rested.
         let f = faces g.C.Freight.goods (slots_items c.args.closed.now.words) c.args.rows q legible c.args.list c.rows.link c.rows.left c.rows.rest.items c.rows.parcels.items (c.rows.invariant.walking q legible low rested) c.rows-test.true in
         let n = f.number in
-        let word = read (slots_items c.args.closed.now.words) (683 + 7 * (c.rows.link - 1) + 1) (684 + 7 * f.x.number) c.word-word.result (omega (arith, n)) c.word-word.ensures in
+        let word = read (slots_items c.args.closed.now.words) _ (state_of f.x.number) c.word-word.result (let is = c.row_place-at.ensures in omega (arith, n, is)) c.word-word.ensures in
         let row : c.rows.link - 1 ≡ f.x.number = omega (arith, n) in
-        let found : slice_index (slots_items c.args.closed.now.words) (683 + 7 * f.x.number) ≡ c.word-link-in-rows.result = read (slots_items c.args.closed.now.words) (683 + 7 * (c.rows.link - 1)) (683 + 7 * f.x.number) c.word-link-in-rows.result (omega (arith, n)) c.word-link-in-rows.ensures in
+        let found : slice_index (slots_items c.args.closed.now.words) (row_link_of f.x.number) ≡ c.word-link-in-rows.result = read (slots_items c.args.closed.now.words) _ (row_link_of f.x.number) c.word-link-in-rows.result (let is = c.row_place-at.ensures in omega (arith, n, is)) c.word-link-in-rows.ensures in
         let tk = f.taken (live_word f.x.state c.word-word.result (sym word ∙ f.word) w.if-word-ne3.true) in
         let same = same_parcel c.rows.parcels.items f.x.number (c.rows.link - 1) tk.0.0 w.unload-cargo.result (sym row) tk.0.1 w.unload-cargo.ensures.value in
         let is = w.resting.ensures q f.x (record {
@@ -106,9 +97,9 @@ rows-preserved g c = elim c.if-word-ne3.branch [
     walking = λ q legible low rested.
         let f = faces g.C.Freight.goods (slots_items c.args.closed.now.words) c.args.rows q legible c.args.list c.rows.link c.rows.left c.rows.rest.items c.rows.parcels.items (c.rows.invariant.walking q legible low rested) c.rows-test.true in
         let n = f.number in
-        let word = read (slots_items c.args.closed.now.words) (683 + 7 * (c.rows.link - 1) + 1) (684 + 7 * f.x.number) c.word-word.result (omega (arith, n)) c.word-word.ensures in
+        let word = read (slots_items c.args.closed.now.words) _ (state_of f.x.number) c.word-word.result (let is = c.row_place-at.ensures in omega (arith, n, is)) c.word-word.ensures in
         let row : c.rows.link - 1 ≡ f.x.number = omega (arith, n) in
-        let found : slice_index (slots_items c.args.closed.now.words) (683 + 7 * f.x.number) ≡ c.word-link-in-rows.result = read (slots_items c.args.closed.now.words) (683 + 7 * (c.rows.link - 1)) (683 + 7 * f.x.number) c.word-link-in-rows.result (omega (arith, n)) c.word-link-in-rows.ensures in
+        let found : slice_index (slots_items c.args.closed.now.words) (row_link_of f.x.number) ≡ c.word-link-in-rows.result = read (slots_items c.args.closed.now.words) _ (row_link_of f.x.number) c.word-link-in-rows.result (let is = c.row_place-at.ensures in omega (arith, n, is)) c.word-link-in-rows.ensures in
         walking_is g.C.Freight.goods (slots_items c.args.closed.now.words) q c.args.list (c.rows.left - 1) _ _ _ c.if-word-ne3.rest.items _ c.if-word-ne3.parcels.items found
         (ap (λ (v : Vec (RestEntry g.row.C.Denot) Global). v.items) (sym w.rest-is)) (ap (λ (v : Vec (Option g.row.C.Denot) Global). v.items) (sym w.parcels-is))
         (f.gone (gone_word f.x.state c.word-word.result (sym word ∙ f.word) w.if-word-ne3.false));

@@ -1,6 +1,5 @@
 use Rattle.std.proofs.Common.{rules, ◌≡◌, ◌≢◌, ℕ, ◌<◌, ◌+◌, ◌*◌, [], ◌∷◌, List, Option, Some, None, sym, ap, ◌∙◌, subst, refl, arith}
 use Rattle.atomic_table.specs.Table.{rest}
-use Rattle.link_core.specs.Layout.{link_of}
 use Rattle.queue_model.specs.declared.deeds.Deed.{Deed}
 use Rattle.entry_table.specs.declared.view.View.{View}
 use Rattle.entry_table.specs.declared.view.Shape.{Shape}
@@ -13,7 +12,7 @@ use Rattle.entry_table.proofs.entries.Entries.link_at.Goals as goal
 pub link_word-found-requires-clause-place : goal.link_word-found-requires-clause-place
 link_word-found-requires-clause-place g c =
     let e = c.args.self.now in
-    let low = node_low e.shape (state_in c.args.seat.now.me.0) c.args.after (subst (λ (s : Shape). Within s (state_in c.args.seat.now.me.0)) c.requires.table.1 c.requires.within) c.requires.draft.linkable.known e.lists in
+    let low = node_low e.shape (state_in c.args.seat.now.me.0) c.args.after (subst (λ (s : Shape). Within s (state_in c.args.seat.now.me.0)) c.requires.table.1 c.requires.within) c.requires.draft.linkable.known in
     let wide = e.wide in (omega (arith, low, wide), c.args.draft.low)
 
 pub link_word-found-requires-clause-ready : goal.link_word-found-requires-clause-ready

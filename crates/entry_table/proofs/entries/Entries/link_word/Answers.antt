@@ -1,6 +1,7 @@
 use Rattle.std.proofs.Common.{rules, refl, arith, subst, sym, ap, ◌≡◌, ◌∙◌, ℕ, suc, ◌+◌, ◌<◌}
 use Rattle.queue_model.specs.declared.steps.Node.{Node}
 use Rattle.link_core.specs.Layout.{link_of}
+use Rattle.entry_table.specs.declared.view.Shape.{Shape}
 use Rattle.entry_table.specs.Plays.{Linkable, linking}
 use Rattle.entry_table.specs.Views.{caller_of, rest_of, state_in}
 use Rattle.entry_table.proofs.Entering.{links_at}
@@ -12,7 +13,7 @@ compare_exchange-requires g c =
     let low = c.requires.place.0 in (
       search rules,
       omega (arith, low, is),
-      links_at g.C.Freight.goods c.args.self.now.table.shared.key _ _ _ c.args.row _ g.J.Placing.number c.args.after g.J.Placing.behind c.args.seat.now.me c.args.caller (rest_of c.args.seat.now.me.0.callers) is (omega arith) c.requires.picked.0 c.requires.picked.1 c.requires.caller c.requires.ready,
+      links_at g.C.Freight.goods c.args.self.now.table.shared.key _ _ _ c.args.row _ g.J.Placing.number c.args.after g.J.Placing.behind c.args.seat.now.me c.args.caller (rest_of c.args.seat.now.me.0.callers) (is ∙ ap (λ (s : Shape). link_of s.rows c.args.after) (sym c.args.self.now.keyed)) (omega arith) c.requires.picked.0 c.requires.picked.1 c.requires.caller c.requires.ready,
     )
 
 pub returns-clause-told : goal.returns-clause-told

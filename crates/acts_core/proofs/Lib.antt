@@ -1,0 +1,9 @@
+pub mod Chaining
+pub mod Sparing
+pub mod Gaining
+pub mod Lasts
+pub mod Forgetting
+pub mod Reserving
+pub mod Aiming
+pub mod Finding
+pub mod Passes
