@@ -10,6 +10,8 @@ pub mod Slots
 pub mod Entering
 pub mod Places
 pub mod Joining
+pub mod Seeking
+pub mod Splitting
 pub mod Ending
 pub mod Changing
 pub mod Opening

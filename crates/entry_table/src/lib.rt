@@ -6,6 +6,7 @@
 mod carried;
 mod depths;
 mod draft;
+mod draws;
 mod entries;
 mod freight;
 mod givings;
