@@ -7,3 +7,4 @@ pub mod Reserving
 pub mod Aiming
 pub mod Finding
 pub mod Passes
+pub mod Running

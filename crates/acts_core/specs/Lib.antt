@@ -13,4 +13,5 @@ pub mod Replies
 pub mod Kept
 pub mod Serves
 pub mod Rest
+pub mod Runs
 pub mod Laws
