@@ -8,3 +8,4 @@ pub mod Aiming
 pub mod Finding
 pub mod Passes
 pub mod Running
+pub mod Stepping

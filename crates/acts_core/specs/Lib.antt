@@ -13,5 +13,6 @@ pub mod Replies
 pub mod Kept
 pub mod Serves
 pub mod Rest
+pub mod Steps
 pub mod Runs
 pub mod Laws
