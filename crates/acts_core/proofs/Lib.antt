@@ -9,3 +9,4 @@ pub mod Finding
 pub mod Passes
 pub mod Running
 pub mod Stepping
+pub mod Walking

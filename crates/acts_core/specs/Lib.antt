@@ -14,5 +14,6 @@ pub mod Kept
 pub mod Serves
 pub mod Rest
 pub mod Steps
+pub mod Walks
 pub mod Runs
 pub mod Laws
