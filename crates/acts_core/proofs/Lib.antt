@@ -10,3 +10,4 @@ pub mod Passes
 pub mod Running
 pub mod Stepping
 pub mod Walking
+pub mod Answering

@@ -58,15 +58,15 @@ stepped_trans a b c xs ys us vs s t =
       grows = prefix_trans a.seen b.seen c.seen s.grows t.grows;
       legal = subst (λ (o : Queue). Legal o c.seen) opening t.legal;
       own_acts =
-        mine
-        ∙ ap (λ (l : List Deed). l ++ deeds_of a.caller ys) s.own_acts
-        ∙ append_assoc (own a.caller a.seen) (deeds_of a.caller xs) (deeds_of a.caller ys)
-        ∙ ap (λ (l : List Deed). own a.caller a.seen ++ l) (sym (deeds_append a.caller xs ys));
+          mine
+          ∙ ap (λ (l : List Deed). l ++ deeds_of a.caller ys) s.own_acts
+          ∙ append_assoc (own a.caller a.seen) (deeds_of a.caller xs) (deeds_of a.caller ys)
+          ∙ ap (λ (l : List Deed). own a.caller a.seen ++ l) (sym (deeds_append a.caller xs ys));
       takes = λ k has.
-        let later : taken_any k c.seen ≡ taken_any k b.seen ++ taken_any k (deeds_of a.caller ys) =
+          let later : taken_any k c.seen ≡ taken_any k b.seen ++ taken_any k (deeds_of a.caller ys) =
           subst (λ (h : ℕ). taken_any k c.seen ≡ taken_any k b.seen ++ taken_any k (deeds_of h ys)) caller (t.takes k (subst (Mem k) (sym consumers) has))
-        in
-        counted (taken_any k) (taken-append k) a.caller a.seen b.seen c.seen xs ys (s.takes k has) later;
+          in
+          counted (taken_any k) (taken-append k) a.caller a.seen b.seen c.seen xs ys (s.takes k has) later;
       ended = λ k over other. t.ended k (subst (Mem k) (sym gone) over) (λ e. other (e ∙ caller)) ∙ s.ended k over other;
       rest = same_rest a b c us vs s.rest t.rest;
     }
@@ -103,7 +103,7 @@ called_by build old new call answer added listed s besides shares allowance shar
       takes = s.takes;
       ended = s.ended;
       rest =
-        s.rest
-        ∙ ap₂ (λ (n m : ℕ). record old { seen = new.seen; shown = old.shown ++ added; allowance = n; share = m }) allowance share
-        ∙ ap (λ (n : ℕ). record old { seen = new.seen; shown = old.shown ++ added; turns = n; allowance = allowance_after call old.allowance; share = share_after call answer old.share }) turns;
+          s.rest
+          ∙ ap₂ (λ (n m : ℕ). record old { seen = new.seen; shown = old.shown ++ added; allowance = n; share = m }) allowance share
+          ∙ ap (λ (n : ℕ). record old { seen = new.seen; shown = old.shown ++ added; turns = n; allowance = allowance_after call old.allowance; share = share_after call answer old.share }) turns;
     }

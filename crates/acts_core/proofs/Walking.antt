@@ -87,8 +87,7 @@ find-behind p (x ∷ xs) ys e = find-past p x (xs ++ ys) (find_none-head p x xs 
 -- a list that was walked by the first steps was walked by all, also in a longer call
 failed_front : (us vs : List Tried) (o : Queue) (s0 s s1 : List Deed) (ask : Ask) (l : ℕ) (Before : Row → Type 0) → IsPrefix s s1 → Failed (Showed us) o s0 s ask l Before → Failed (Showed (us ++ vs)) o s0 s1 ask l Before
 failed_front us vs o s0 s s1 ask l Before p f =
-    let t = f.1.1 in
-    (
+    let t = f.1.1 in (
       f.0,
       (record { later = f.1.0.later; early = prefix_trans f.0 s s1 f.1.0.early p }, (t.0, find-append (λ (x : Tried). on_head l x.step) us vs t.0 t.1, t.2)),
       λ y is list before. once_later o ask f.0 s s1 y.number p (f.2 y is list before),
@@ -97,8 +96,7 @@ failed_front us vs o s0 s s1 ask l Before p f =
 -- one that was walked by the last steps was walked by all, where the first are not on its head link
 failed_behind : (us vs : List Tried) (o : Queue) (s0 s s1 : List Deed) (ask : Ask) (l : ℕ) (Before : Row → Type 0) → IsPrefix s0 s → NoHead l us → Failed (Showed vs) o s s1 ask l Before → Failed (Showed (us ++ vs)) o s0 s1 ask l Before
 failed_behind us vs o s0 s s1 ask l Before p none f =
-    let t = f.1.1 in
-    (
+    let t = f.1.1 in (
       f.0,
       (record { later = prefix_trans s0 s f.0 p f.1.0.later; early = f.1.0.early }, (t.0, find-behind (λ (x : Tried). on_head l x.step) us vs none ∙ t.1, t.2)),
       f.2,
@@ -134,8 +132,8 @@ walk_more old now new ask l n m us w s r none now_fails = record {
   starts = (w.starts.0, find-append (λ (t : Tried). on_head l t.step) w.added us w.starts.0 w.starts.1, w.starts.2);
   others = λ k away. no_head-append k w.added us (w.others k away) (none k away);
   below =
-    below_on old.opening ask l n m w.begin new.seen (prefix_trans w.begin now.seen new.seen w.between.early s.grows) now_fails
-    (below_later old.opening ask l n w.begin now.seen new.seen s.grows w.below);
+      below_on old.opening ask l n m w.begin new.seen (prefix_trans w.begin now.seen new.seen w.between.early s.grows) now_fails
+      (below_later old.opening ask l n w.begin now.seen new.seen s.grows w.below);
 }
 
 -- the end
@@ -153,7 +151,7 @@ walk_first old new ask l None f = walk_ended old new ask l 0 (walk_begun old new
 walk_first old new ask l (Some r) f = record {
   there = f.1;
   walking =
-    walk_deleted (walk_begun old new ask l f.0) f.3;
+      walk_deleted (walk_begun old new ask l f.0) f.3;
 }
   where
     walk_deleted : Walking old new ask l 0 → AreDeleted (after old.opening new.seen) l 0 (place_at (after old.opening new.seen) r) → Walking old new ask l (place_at (after old.opening new.seen) r)
@@ -202,8 +200,8 @@ walk_link old mid last ask l r (Some q) there w opening f =
     record {
       there = found_row;
       walking =
-        walk_more old mid last ask l (suc (place_at (after o mid.seen) r)) (place_at (after o last.seen) q) (f.0.entry ∷ []) w f.0.steps f.0.rights none
-        (λ e x found list low high. deleted_fails ask x (gone e x found list (omega (arith, low, place)) high));
+          walk_more old mid last ask l (suc (place_at (after o mid.seen) r)) (place_at (after o last.seen) q) (f.0.entry ∷ []) w f.0.steps f.0.rights none
+          (λ e x found list low high. deleted_fails ask x (gone e x found list (omega (arith, low, place)) high));
     }
 
 pub walk_on : (old now mid last : Sight) (ask : Ask) (l r : ℕ) (us : List Tried) (result : Option ℕ) → Facing old now ask l r → Stepped now mid [] us → SameRights now mid → NoHeads us → ((x : Row) → row_at (after old.opening mid.seen) r ≡ Some x → Fails ask x)
@@ -228,8 +226,8 @@ walk_got old now new ask l r acts us f s rights none =
         w.begin,
         (record { later = w.between.later; early = early }, (w.starts.0, find-append (λ (t : Tried). on_head l t.step) w.added us w.starts.0 w.starts.1, w.starts.2)),
         λ y is list low.
-        let here : place_at (after o new.seen) y.number ≡ place_at (after o w.begin) y.number = place_later o w.begin new.seen y.number y early is in
-        once_later o ask w.begin now.seen new.seen y.number s.grows (w.below y is list (omega (arith, low, place, here))),
+            let here : place_at (after o new.seen) y.number ≡ place_at (after o w.begin) y.number = place_later o w.begin new.seen y.number y early is in
+            once_later o ask w.begin now.seen new.seen y.number s.grows (w.below y is list (omega (arith, low, place, here))),
       );
     }
 
@@ -289,7 +287,7 @@ done_got old now new ask low high k r acts d none e =
       rights = rights_trans old now new d.rights e.rights;
       failed = λ m least up. failed_front d.added e.added old.opening old.seen now.seen new.seen ask m (λ y. Unit {0}) e.steps.grows (d.failed m least up);
       last =
-        failed_behind d.added e.added old.opening old.seen now.seen new.seen ask k
-        (λ y. place_at (after old.opening new.seen) y.number < place_at (after old.opening new.seen) r) d.steps.grows none
-        (subst (λ (o : Queue). Failed (Showed e.added) o now.seen new.seen ask k (λ y. place_at (after o new.seen) y.number < place_at (after o new.seen) r)) opening e.failed);
+          failed_behind d.added e.added old.opening old.seen now.seen new.seen ask k
+          (λ y. place_at (after old.opening new.seen) y.number < place_at (after old.opening new.seen) r) d.steps.grows none
+          (subst (λ (o : Queue). Failed (Showed e.added) o now.seen new.seen ask k (λ y. place_at (after o new.seen) y.number < place_at (after o new.seen) r)) opening e.failed);
     }
