@@ -17,3 +17,4 @@ pub mod Counting
 pub mod Closing
 pub mod Leaving
 pub mod Exchanging
+pub mod Sighting
