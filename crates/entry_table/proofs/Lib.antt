@@ -23,3 +23,4 @@ pub mod Outs
 pub mod Tailing
 pub mod Giving
 pub mod Bringing
+pub mod Sighting
