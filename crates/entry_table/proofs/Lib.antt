@@ -19,3 +19,8 @@ pub mod Counting
 pub mod Closing
 pub mod Leaving
 pub mod Exchanging
+pub mod Outs
+pub mod Tailing
+pub mod Giving
+pub mod Bringing
+pub mod Sighting

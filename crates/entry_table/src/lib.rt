@@ -8,6 +8,8 @@ mod depths;
 mod draft;
 mod draws;
 mod entries;
+mod givings;
+mod homes;
 mod links;
 mod loads;
 mod pass;
@@ -15,6 +17,7 @@ mod plays;
 mod rest;
 mod splits;
 mod states;
+mod tails;
 mod view;
 
 pub use draft::{Draft, Drawn, Linking};
