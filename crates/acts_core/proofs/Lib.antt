@@ -7,3 +7,7 @@ pub mod Reserving
 pub mod Aiming
 pub mod Finding
 pub mod Passes
+pub mod Running
+pub mod Stepping
+pub mod Walking
+pub mod Answering

@@ -4,6 +4,7 @@
 
 pub mod bare;
 pub mod cargoes;
+pub mod clients;
 pub mod cores;
 pub mod laws;
 pub mod shared;

@@ -1,0 +1,26 @@
+//! The table of a listed queue: single steps of many callers on the words of its rows, and what each caller
+//! knows of the one history that the steps make. docs/QUEUE-MODEL.md, "Passes", says what a pass knows and
+//! what rule holds between any two steps.
+#![tactic(auto)]
+
+mod carried;
+mod depths;
+mod draft;
+mod entries;
+mod freight;
+mod links;
+mod loads;
+mod pass;
+mod plays;
+mod rest;
+mod splits;
+mod states;
+mod view;
+
+pub use draft::{Draft, Drawn, Linking};
+pub use entries::Entries;
+pub use freight::Freight;
+pub use pass::Pass;
+pub use rest::RestEntry;
+pub use states::Exchanged;
+pub use view::{Drawing, Ruling, Shape, Told, View};
