@@ -44,7 +44,7 @@ impl Words {
         consumers: u32,
         callers: u64,
     ) -> Result<Words, NoMemory>
-        requires rows { rows ≤ 524288 }
+        requires rows { rows ≤ most_entries }
         requires consumers { consumers ≤ 64 }
         requires callers { callers ≤ 4294967296 }
         ensures { IfOk result (λ w. table_of w ≡ fresh lists rows consumers callers) }
