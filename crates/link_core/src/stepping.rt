@@ -1,4 +1,5 @@
 //! The words of a table that a program can keep and change, one step at a time.
+ghost use Rattle.queue_model.specs.Table.{most_entries};
 ghost use Rattle.std.specs.Prelude.{◌≡◌, ◌≤◌, IfOk, OnErr};
 ghost use Rattle.link_core.specs.Advanced.{Advances};
 ghost use Rattle.link_core.specs.Fresh.{fresh};
