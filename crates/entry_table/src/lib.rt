@@ -6,8 +6,10 @@
 mod carried;
 mod depths;
 mod draft;
+mod draws;
 mod entries;
-mod freight;
+mod givings;
+mod homes;
 mod links;
 mod loads;
 mod pass;
@@ -15,12 +17,11 @@ mod plays;
 mod rest;
 mod splits;
 mod states;
+mod tails;
 mod view;
 
 pub use draft::{Draft, Drawn, Linking};
 pub use entries::Entries;
-pub use freight::Freight;
 pub use pass::Pass;
-pub use rest::RestEntry;
 pub use states::Exchanged;
 pub use view::{Drawing, Ruling, Shape, Told, View};
