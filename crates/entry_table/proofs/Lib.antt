@@ -18,3 +18,4 @@ pub mod Closing
 pub mod Leaving
 pub mod Exchanging
 pub mod Sighting
+pub mod Following
