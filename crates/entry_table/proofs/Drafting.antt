@@ -111,11 +111,11 @@ module _ {C : Type 0} (load : C → Load) (shape : Shape) where
       )
 
   pub draws_allowed : (slots id t : ℕ) (m : Me (Option C) View) (h : ℕ) (ended : List ℕ) → m.0.callers ≡ h ∷ ended → m.0.slot ≡ None → 1 ≤ m.0.share
-      → Allows (Ruled load shape) slots id m 0 (λ n. either (eqb n t) (t + 1) n) (draws (step slots 0 t (t + 1) maybe.none) m)
+      → Allows (Ruled load shape) slots id m 0 (λ n. either (eqb n t) (t + 1) n) (draws t m)
   draws_allowed slots id t m h ended is idle room s ruled len at low =
       let r = opened load shape s id m.0 h ended is at ruled in
       let n : ℕ = slice_index s.words 0 in
-      by_found load shape s id 0 t (t + 1) m (drew n m) (looked steps.Draw m n) (draws (step slots 0 t (t + 1) maybe.none) m)
+      by_found load shape s id 0 t (t + 1) m (drew n m) (looked steps.Draw m n) (draws t m)
       (λ u e told. ((λ hit. told), (λ ne. absurd (ne e))))
       (λ u e told. ((λ hit. absurd (e hit)), (λ ne. told)))
       (λ e. subst (λ (k : ℕ). Owes load shape s id m 0 k (drew n m)) (ap (λ (k : ℕ). k + 1) e) (drew_owes s id m h ended is idle room at r))

@@ -10,6 +10,8 @@ pub mod Slots
 pub mod Entering
 pub mod Places
 pub mod Joining
+pub mod Seeking
+pub mod Splitting
 pub mod Ending
 pub mod Changing
 pub mod Opening
@@ -17,5 +19,9 @@ pub mod Counting
 pub mod Closing
 pub mod Leaving
 pub mod Exchanging
+pub mod Outs
+pub mod Tailing
+pub mod Giving
+pub mod Bringing
 pub mod Sighting
 pub mod Following

@@ -13,12 +13,12 @@ use Rattle.queue_model.proofs.Owns.{own_rest}
 use Rattle.entry_table.specs.declared.view.Shape.{Shape}
 use Rattle.entry_table.specs.declared.view.Told.{Told}
 use Rattle.entry_table.specs.declared.view.View.{View}
-use Rattle.entry_table.specs.Views.{Has, told_of, concerns, concerning, AllEnd}
+use Rattle.entry_table.specs.Views.{Has, caller_of, told_of, concerns, concerning, AllEnd}
 use Rattle.entry_table.specs.Rule.{IsTold, RuledAt, Ruled, allowance, share}
 use Rattle.entry_table.specs.Plays.{Went, Learns, Joined, merged, settled, settled_view}
 use Rattle.entry_table.proofs.Concerning.{none_concern}
 use Rattle.entry_table.proofs.Frames.{sum_views, in_sum}
-use Rattle.entry_table.proofs.Keeping.{opened, went, no_takes}
+use Rattle.entry_table.proofs.Keeping.{opened, went, no_takes, first_has}
 use Rattle.entry_table.proofs.Looking.{plain}
 
 learns : (H : List Deed) (v : View) (t : Told) → IsTold H v t → Learns t H
@@ -67,7 +67,19 @@ module _ {C : Type 0} (load : C → Load) (shape : Shape) where
       )
 
 -- what the load tells of two passes that were just joined
-pub joined_is : {S : Type 0} (v w : View) (m m' : Me S View) (n : ℕ) → m.0 ≡ merged v w → settled m n m' → Joined v w m'.0
-joined_is v w m m' n e told = from_merged (subst (λ (z : View). Went z m'.0 [] × ((t : Told) → Has t z.told → Learns t m'.0.seen) × (m'.0.share ≤ z.shape.rows) × (m'.0 ≡ settled_view z m'.0.seen)) e (told.1, told.2, told.3, told.4)) where
+pub joined_is : {S : Type 0} (v w : View) (m m' : Me S View) (n h : ℕ) (ended : List ℕ) → v.callers ≡ h ∷ ended → m.0 ≡ merged v w → settled m n m' → Joined v w m'.0
+joined_is v w m m' n h ended is e told = from_merged (subst (λ (z : View). Went z m'.0 [] × ((t : Told) → Has t z.told → Learns t m'.0.seen) × (m'.0.share ≤ z.shape.rows) × (m'.0 ≡ settled_view z m'.0.seen)) e (told.1, told.2, told.3, told.4)) where
   from_merged : Went (merged v w) m'.0 [] × ((t : Told) → Has t (merged v w).told → Learns t m'.0.seen) × (m'.0.share ≤ v.shape.rows) × (m'.0 ≡ settled_view (merged v w) m'.0.seen) → Joined v w m'.0
-  from_merged x = record { went = x.0; into = x.1 (told_of v) (inl refl); gone = x.1 (told_of w) (inr (inl refl)); room = x.2; view = x.3 }
+  from_merged x =
+      let into = x.1 (told_of v) (inl refl) in record {
+        went = x.0;
+        mine = record {
+          prefix = into.prefix;
+          legal = x.0.steps.legal;
+          own_more = into.callers (caller_of v.callers) (first_has v.callers h ended is) ∙ sym (append-nil (own (caller_of v.callers) v.seen));
+          concern_more = into.concerned ∙ sym (append-nil (concerning v.callers v.consumers v.seen));
+        };
+        gone = x.1 (told_of w) (inr (inl refl));
+        room = x.2;
+        view = x.3;
+      }

@@ -10,7 +10,7 @@ use Rattle.queue_model.specs.declared.deeds.Act.TheVariants as acts
 use Rattle.queue_model.specs.declared.deeds.Deed.{Deed}
 use Rattle.queue_model.specs.declared.queues.Queue.{Queue}
 use Rattle.queue_model.specs.declared.steps.Tried.{Tried}
-use Rattle.queue_model.specs.History.{own, is_by, deed, deeds_of}
+use Rattle.queue_model.specs.History.{Legal, own, is_by, deed, deeds_of}
 use Rattle.queue_model.specs.Sound.{IsOpening}
 use Rattle.queue_model.proofs.Histories.{own-append}
 use Rattle.acts_core.specs.Asked.{IsSightOf}
@@ -140,10 +140,11 @@ pub same_rights : (old new : Pass) → allowance new ≡ allowance old → share
 same_rights old new a s = record { allowance = a; share = s }
 
 -- a table serves a pass that it served
-pub serves_on : {C : Type 0} (e : Entries C) (old new : Pass) → Serves e old → Kept old new → Serves e new
-serves_on e old new s k = record {
+pub serves_on : {C : Type 0} (e : Entries C) (old new : Pass) (acts : List Act) → Serves e old → Kept old new → Did old new acts → Serves e new
+serves_on e old new acts s k d = record {
   pass = record { table = k.table ∙ s.pass.table; shape = k.shape ∙ s.pass.shape };
   opening = subst IsOpening (sym k.opening) s.opening;
+  legal = subst (λ (o : Queue). Legal o (seen new)) (sym k.opening) d.legal;
 }
 
 -- what holds of each pass

@@ -17,6 +17,8 @@ use Rattle.queue_model.specs.declared.steps.WordName.TheVariants as names
 use Rattle.std.specs.List.{AllByRecursion}
 use Rattle.queue_model.specs.declared.steps.Tried.{Tried}
 use Rattle.entry_table.specs.declared.draft.Draft.{Draft}
+use Rattle.entry_table.specs.declared.draft.Drawn.{Drawn}
+use Rattle.entry_table.specs.declared.draft.Drawn.TheVariants.{Row as DrawnRow, Spent}
 use Rattle.entry_table.specs.declared.draft.Linking.{Linking}
 use Rattle.entry_table.specs.declared.draft.Linking.TheVariants.{Linked, Behind}
 use Rattle.entry_table.specs.declared.states.Exchanged.{Exchanged}
@@ -124,8 +126,48 @@ abbrev pub drew : {S : Type 0} → ℕ → Me S View → Me S View → Type 0
 drew t m m' = (m'.1 ≡ m.1) × Went m.0 m'.0 [] × (m'.0 ≡ drew_view m.0 t m'.0.seen)
 
 -- an exchange of the top word from t
-abbrev pub draws : {S : Type 0} → Played S → Me S View → ℕ → Me S View → Type 0
-draws st m n m' = (n ≡ st.first → drew n m m') × (n ≢ st.first → looked steps.Draw m n m')
+abbrev pub draws : {S : Type 0} → ℕ → Me S View → ℕ → Me S View → Type 0
+draws t m n m' = (n ≡ t → drew n m m') × (n ≢ t → looked steps.Draw m n m')
+
+-- the same, by the operand
+abbrev pub drawing : {S : Type 0} → Played S → Me S View → ℕ → Me S View → Type 0
+drawing st m n m' = draws st.first m n m'
+
+-- an entry of the log for a draw
+abbrev pub is_draw : Tried → Type 0
+is_draw e = e.step ≡ steps.Draw
+
+-- Row `row` was drawn. The log grew by draws alone, at most one a row of the table.
+pub record DidDraw (v w : View) (row : ℕ) : Type 0 where
+  pub went : Went v w []
+  pub added : List Tried
+  pub shown_is : w.shown ≡ v.shown ++ added
+  pub draws : AllByRecursion is_draw added
+  pub few : length added ≤ v.shape.rows
+  pub low : row < v.shape.rows
+  pub view : w ≡ record v { share = v.share - 1; reached = row + 1; drawn = blank_drawing row ∷ v.drawn; told = []; seen = w.seen; shown = w.shown }
+
+-- what a draw answers: a row, or that the share is used up, and then nothing happened
+abbrev pub DrawAnswer : {C : Type 0} → View → View → C → Drawn C → Type 0
+DrawAnswer v w cargo (DrawnRow draft) = (0 < v.share) × (draft.cargo ≡ cargo) × DidDraw v w draft.row
+DrawAnswer v w cargo (Spent back) = (v.share ≡ 0) × (back ≡ cargo) × (w ≡ v)
+
+-- A draw is under way: the rows before `row` are drawn by others, as the tries so far showed, and each showed one more at least.
+pub record Seeks (v u : View) (row : ℕ) : Type 0 where
+  pub on : (w : View) (ds : List Deed) → Went u w ds → Went v w ds
+  pub added : List Tried
+  pub shown_is : u.shown ≡ v.shown ++ added
+  pub draws : AllByRecursion is_draw added
+  pub few : length added ≤ row
+  pub low : row ≤ u.reached
+  pub high : u.reached ≤ v.shape.rows
+  pub view : u ≡ record v { reached = u.reached; told = u.told; seen = u.seen; shown = u.shown }
+
+-- the pass drew the row and has not linked it
+pub record IsDrawnBy (v : View) (row : ℕ) : Type 0 where
+  pub d : Drawing
+  pub drawing : drawing_at v row ≡ Some d
+  pub low : row < v.shape.rows
 
 -- Stores of draft words
 
@@ -201,10 +243,26 @@ settled m n m' = (m'.1 ≡ m.1) × Went m.0 m'.0 [] × ((t : Told) → Has t m.0
 -- Two passes were joined. What both had seen begins what is seen now, in which nothing else concerns either.
 pub record Joined (v w u : View) : Type 0 where
   pub went : Went (merged v w) u []
-  pub into : Learns (told_of v) u.seen
+  pub mine : Steps v.opening (caller_of v.callers) v.callers v.consumers v.seen u.seen []
   pub gone : Learns (told_of w) u.seen
   pub room : u.share ≤ v.shape.rows
   pub view : u ≡ settled_view (merged v w) u.seen
+
+-- The view w gave a note of what it had seen to v, which has seen more then.
+pub record Met (v w u : View) : Type 0 where
+  pub mine : Steps v.opening (caller_of v.callers) v.callers v.consumers v.seen u.seen []
+  pub theirs : IsPrefix w.seen u.seen
+  pub within : Within v.shape (after v.opening u.seen)
+  pub more : v.reached ≤ u.reached
+  pub most : u.reached ≤ v.shape.rows
+  pub bound : caller_of v.callers ≡ 0 → (k : ℕ) → v.made ≤ k → own k u.seen ≡ []
+  pub view : u ≡ record v { alone = false; told = []; seen = u.seen }
+
+-- The boss, whose view was v, parted with the consumers cs and with n of its allowance and share, to a new caller, whose view is u.
+pub record DidSplit (v w u : View) (cs : List ℕ) (n : ℕ) : Type 0 where
+  pub went : Went v w []
+  pub boss : w ≡ record v { made = v.made + 1; alone = false; consumers = not_in cs v.consumers; allowance = v.allowance - n; share = v.share - n; told = []; seen = w.seen }
+  pub new : u ≡ record { shape = v.shape; opening = v.opening; callers = v.made ∷ []; made = 0; alone = false; consumers = cs; allowance = n; share = n; reached = v.reached; drawn = []; slot = None; told = []; seen = w.seen; shown = [] }
 
 -- Slots
 

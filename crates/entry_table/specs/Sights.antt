@@ -1,5 +1,6 @@
 -- a table and its passes, as the contracts of every queue see them
 use Rattle.std.specs.Prelude.{◌≡◌}
+use Rattle.queue_model.specs.History.{Legal}
 use Rattle.queue_model.specs.Sound.{IsOpening}
 use Rattle.acts_core.specs.Sight.{Build, silent_lists, Sight}
 use Rattle.entry_table.specs.declared.entries.Entries.{Entries}
@@ -26,7 +27,8 @@ sight p = record {
   turns = 0;
 }
 
--- the pass is one of this table, which began with an opening
+-- the pass is one of this table, which began with an opening; what it has seen is legal
 pub record Serves {C : Type 0} (e : Entries C) (p : Pass) : Type 0 where
   pub pass : IsPassOf e p
   pub opening : IsOpening (opening p)
+  pub legal : Legal (opening p) (seen p)

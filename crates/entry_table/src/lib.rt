@@ -6,8 +6,11 @@
 mod carried;
 mod depths;
 mod draft;
+mod draws;
 mod entries;
 mod freight;
+mod givings;
+mod homes;
 mod links;
 mod loads;
 mod pass;
@@ -15,6 +18,7 @@ mod plays;
 mod rest;
 mod splits;
 mod states;
+mod tails;
 mod view;
 
 pub use draft::{Draft, Drawn, Linking};

@@ -89,6 +89,47 @@ impl<C> Play<Option<C>, View> for Gives {
     ghost then = { λ st. given (Load Callers) };
 }
 
+/// An exchange of the number of rows drawn.
+pub struct Draws;
+
+impl<C> Play<Option<C>, View> for Draws {
+    ghost use Rattle.entry_table.specs.Plays.{drawing};
+
+    ghost then = { drawing };
+}
+
+/// The draft word that is stored, of which row, and the value. Each call picks them.
+pub trait Storing {
+    ghost use Rattle.queue_model.specs.declared.steps.DraftWord.{DraftWord};
+
+    ghost target: { ℕ };
+
+    ghost part: { DraftWord };
+
+    ghost value: { ℕ };
+}
+
+impl Storing for Brand {
+    ghost use Rattle.queue_model.specs.declared.steps.DraftWord.TheVariants.{Mask};
+
+    ghost target = { 0 };
+
+    ghost part = { Mask };
+
+    ghost value = { 0 };
+}
+
+/// A store of a draft word.
+pub struct Stores<J> {
+    word: PhantomData<J>,
+}
+
+impl<C, J: Storing> Play<Option<C>, View> for Stores<J> {
+    ghost use Rattle.entry_table.specs.Plays.{stored};
+
+    ghost then = { λ st m n. stored J.target J.part J.value m };
+}
+
 /// A draw of a caller number.
 pub struct Numbers;
 
@@ -134,6 +175,17 @@ impl<C> Play<Option<C>, View> for Settles {
     ghost use Rattle.entry_table.specs.Plays.{settled};
 
     ghost then = { λ st. settled };
+}
+
+/// A note of what a pass has seen, cut from its view.
+pub struct Notes;
+
+impl Split<View> for Notes {
+    ghost use Rattle.entry_table.specs.Plays.{noted_left, note};
+
+    ghost left = { noted_left };
+
+    ghost right = { note };
 }
 
 /// Two views made one.

@@ -18,4 +18,4 @@ load-requires g c =
     )
 
 pub returns-clause-joined : goal.returns-clause-joined
-returns-clause-joined g c = joined_is c.args.seat.now.me.0 c.args.other.me.0 c.merge_at.new.seat.me c.load.new.seat.me c.load.result (ap (λ (m : Me _ View). m.0) c.merge_at.ensures.view) c.load.ensures.2
+returns-clause-joined g c = joined_is c.args.seat.now.me.0 c.args.other.me.0 c.merge_at.new.seat.me c.load.new.seat.me c.load.result c.args.caller (rest_of c.args.seat.now.me.0.callers) c.requires.caller (ap (λ (m : Me _ View). m.0) c.merge_at.ensures.view) c.load.ensures.2
