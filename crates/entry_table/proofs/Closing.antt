@@ -21,7 +21,7 @@ use Rattle.link_core.specs.Stands.{Stands, Chain, Points}
 use Rattle.link_core.specs.Table.{Table}
 use Rattle.entry_table.specs.Rule.{Carries}
 use Rattle.entry_table.specs.Resting.{is_live, live, rests, Keyless, Legible, IsRest, AreRests, Waits, AllWait, Rested, Walking, IsFor}
-use Rattle.entry_table.specs.declared.rest.RestEntry.{RestEntry}
+use Rattle.acts_core.specs.declared.cargoes.RestEntry.{RestEntry}
 
 -- Words and slots that are read
 

@@ -19,7 +19,7 @@ use Rattle.link_core.specs.Stands.{Stands}
 use Rattle.entry_table.specs.declared.view.Shape.{Shape}
 use Rattle.entry_table.specs.Rule.{table_at, Lies, Cargoes}
 use Rattle.entry_table.specs.Resting.{is_live, live, rests, Legible, Waits, AllWait, Settled, Rested, AreRests}
-use Rattle.entry_table.specs.declared.rest.RestEntry.{RestEntry}
+use Rattle.acts_core.specs.declared.cargoes.RestEntry.{RestEntry}
 use Rattle.entry_table.proofs.Closing.{less_at, all_found, of_list}
 use Rattle.entry_table.proofs.Counting.{few, few_rows}
 use Rattle.std.specs.Prelude.{slice_index}

@@ -6,7 +6,7 @@ use Rattle.queue_model.specs.declared.deeds.Deed.{Deed}
 use Rattle.queue_model.specs.declared.steps.DraftWord.{DraftWord}
 use Rattle.queue_model.specs.History.{after, own}
 use Rattle.acts_core.specs.Load.{Load}
-use Rattle.link_core.specs.Layout.{draft_of}
+use Rattle.link_core.specs.Layout.{draft_of, words_of}
 use Rattle.link_core.proofs.Frames.{draft_high}
 use Rattle.entry_table.specs.declared.view.Drawing.{Drawing}
 use Rattle.entry_table.specs.declared.view.Shape.{Shape}
@@ -19,8 +19,8 @@ use Rattle.entry_table.proofs.Drafting.{stores_allowed}
 -- Stores
 
 -- a draft word of a row of the table is one of its words
-pub draft_inside : (row : ℕ) (word : DraftWord) (rows : ℕ) → row < rows → draft_of row word < 683 + 7 * rows
-draft_inside row word rows low = let high = draft_high row word in omega arith
+pub draft_inside : (row : ℕ) (word : DraftWord) (rows lists : ℕ) → row < rows → draft_of row word < words_of rows lists
+draft_inside row word rows lists low = let high = draft_high row word in omega arith
 
 module _ {C : Type 0} (load : C → Load) (shape : Shape) where
   -- the store, by the row, the word and the value that were picked

@@ -8,7 +8,7 @@ ghost use Rattle.entry_table.specs.Plays.{DepthShown, reserved};
 ghost use Rattle.entry_table.specs.Passes.{IsPassOf, Kept, Did, ShowsDepth, allowance, share, drawn};
 
 use crate::entries::Entries;
-use crate::freight::Freight;
+use acts_core::Freight;
 use crate::pass::Pass;
 use crate::plays::Reserves;
 use crate::view::View;

@@ -7,12 +7,12 @@ ghost use Rattle.entry_table.specs.Passes.{IsPassOf, Kept, Did, view, seen, allo
 
 use crate::draft::{Draft, Drawn};
 use crate::entries::Entries;
-use crate::freight::Freight;
+use acts_core::Freight;
 use crate::pass::Pass;
 use crate::plays::{Draws, Stores, Storing};
 use crate::view::View;
 use atomic_table::{Badge, Seat};
-use link_core::places::draft_place;
+use link_core::places::{TOP, draft_place};
 use queue_model::DraftWord;
 use std::marker::Brand;
 use std::mem;
@@ -71,7 +71,7 @@ impl<C: Freight> Entries<C> {
         let _caller = caller;
         self.table
             .shared
-            .compare_exchange::<Draws>(seat, 0, row, row + 1)
+            .compare_exchange::<Draws>(seat, TOP, row, row + 1)
     }
 
     /// Stores a draft word of a row that the pass drew.

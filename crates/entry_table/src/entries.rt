@@ -2,8 +2,7 @@
 ghost use Rattle.link_core.specs.Layout.{words_of};
 ghost use Rattle.std.specs.Prelude.{◌≡◌, ◌+◌, ◌*◌, ◌≤◌, vec_len, vec_capacity};
 
-use crate::freight::Freight;
-use crate::rest::RestEntry;
+use acts_core::{Freight, RestEntry};
 use crate::view::{Ruling, Shape, View};
 use atomic_table::Table;
 use std::alloc::Global;

@@ -11,7 +11,7 @@ ghost use Rattle.entry_table.specs.Givings.{giving};
 ghost use Rattle.entry_table.specs.Passes.{IsPassOf, Kept, Did, state, shown, seen, allowance, share, drawn};
 
 use crate::entries::Entries;
-use crate::freight::Freight;
+use acts_core::Freight;
 use crate::pass::Pass;
 use crate::view::View;
 use atomic_table::{Badge, Play, Seat};

@@ -15,7 +15,7 @@ ghost use Rattle.entry_table.specs.Homes.{bringing, BringsHome, Brought, deleted
 ghost use Rattle.entry_table.specs.Passes.{IsPassOf, Kept, Did, state, shown, seen, allowance, share, drawn, view};
 
 use crate::entries::Entries;
-use crate::freight::Freight;
+use acts_core::Freight;
 use crate::pass::Pass;
 use crate::states::Altering;
 use crate::view::View;

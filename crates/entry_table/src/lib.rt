@@ -8,7 +8,6 @@ mod depths;
 mod draft;
 mod draws;
 mod entries;
-mod freight;
 mod givings;
 mod homes;
 mod links;
@@ -23,8 +22,6 @@ mod view;
 
 pub use draft::{Draft, Drawn, Linking};
 pub use entries::Entries;
-pub use freight::Freight;
 pub use pass::Pass;
-pub use rest::RestEntry;
 pub use states::Exchanged;
 pub use view::{Drawing, Ruling, Shape, Told, View};

@@ -7,7 +7,7 @@ ghost use Rattle.entry_table.specs.Passes.{IsPassOf, Kept, view, allowance, shar
 
 use crate::draft::{Draft, Linking};
 use crate::entries::Entries;
-use crate::freight::Freight;
+use acts_core::Freight;
 use crate::pass::Pass;
 use crate::plays::{Links, Placing};
 use crate::view::View;

@@ -6,7 +6,7 @@ ghost use Rattle.entry_table.specs.Plays.{Shows, looked};
 ghost use Rattle.entry_table.specs.Passes.{IsPassOf, Kept, Did, HasWord, state, shown, seen, allowance, share, drawn};
 
 use crate::entries::Entries;
-use crate::freight::Freight;
+use acts_core::Freight;
 use crate::pass::Pass;
 use crate::plays::{Looks, Trying};
 use crate::view::View;

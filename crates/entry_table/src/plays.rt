@@ -1,7 +1,7 @@
 //! What each step tells.
 ghost use Rattle.std.specs.Prelude.{ℕ};
 
-use crate::freight::Freight;
+use acts_core::Freight;
 use crate::view::View;
 use atomic_table::{Join, Play, Split};
 use std::marker::{Brand, PhantomData};

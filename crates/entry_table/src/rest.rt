@@ -15,22 +15,13 @@ ghost use Rattle.entry_table.specs.Views.{Has};
 ghost use Rattle.entry_table.specs.Passes.{IsPassOf, view, callers, state, seen};
 
 use crate::entries::Entries;
-use crate::freight::Freight;
+use acts_core::{Freight, RestEntry};
 use crate::pass::Pass;
 use atomic_table::Closed;
 use link_core::places::{IDENT_AT, MASK_AT, SIZE_AT, STATE_AT, list_place, row_place, state_of};
 use queue_model::{RowState, Slip};
 use std::alloc::Global;
 use std::mem;
-
-/// A row that is not deleted, with its cargo.
-#[derive(Drop)]
-pub struct RestEntry<C> {
-    pub slip: Slip,
-    pub state: RowState,
-    pub outdated: bool,
-    pub cargo: C,
-}
 
 // The cargo of a row that waits.
 fn unload<C>(parcels: &mut Vec<Option<C>>, row: usize) -> C

@@ -5,7 +5,7 @@ ghost use Rattle.entry_table.specs.Plays.{numbered, cut_left, cut_right, noted_l
 ghost use Rattle.entry_table.specs.Passes.{IsPassOf, view, opening};
 
 use crate::entries::Entries;
-use crate::freight::Freight;
+use acts_core::Freight;
 use crate::pass::Pass;
 use crate::plays::{Cut, Merge, Notes, Numbers, Portion, Settles};
 use crate::view::View;

@@ -12,7 +12,7 @@ ghost use Rattle.queue_model.specs.declared.rows.RowState.TheVariants.{Locked};
 ghost use Rattle.entry_table.specs.Passes.{IsPassOf, Kept, Did, view, state, allowance, share};
 
 use crate::entries::Entries;
-use crate::freight::Freight;
+use acts_core::Freight;
 use crate::pass::Pass;
 use crate::view::View;
 use atomic_table::{Badge, Play, Seat};

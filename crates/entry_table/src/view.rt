@@ -1,5 +1,5 @@
 //! What a pass knows of its table, and the rule of the table. All of it exists in proofs alone, but for the shape.
-use crate::freight::Freight;
+use acts_core::Freight;
 use atomic_table::TableRule;
 use queue_model::{Deed, Queue, Tried};
 use std::collections::LinkedList;

@@ -10,7 +10,7 @@ use Rattle.link_core.specs.Layout.{row_link_of, state_of, head_of}
 use Rattle.entry_table.specs.Resting.{Walking, Rested, IsFor, is_live}
 use Rattle.std.proofs.Common.{Vec, Global}
 use Rattle.entry_table.specs.Rule.{Carries}
-use Rattle.entry_table.specs.declared.rest.RestEntry.{RestEntry}
+use Rattle.acts_core.specs.declared.cargoes.RestEntry.{RestEntry}
 use Rattle.entry_table.proofs.Closing.{read, walk_begins, walk_ends, faces, live_word, gone_word, same_parcel, walking_is}
 use Rattle.entry_table.proofs.rest.gather.Goals as goal
 use Rattle.entry_table.proofs.rest.gather.Goals.{then-word-ne3, else-word-ne3}

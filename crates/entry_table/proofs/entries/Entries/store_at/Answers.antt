@@ -18,7 +18,7 @@ draft_place-place-requires g c =
 pub store-requires : goal.store-requires
 store-requires g c =
     let e = c.args.self.now in
-    let low = draft_inside c.args.row c.args.word e.shape.rows (subst (λ (s : Shape). c.args.row < s.rows) c.requires.shape c.requires.draft.low) in
+    let low = draft_inside c.args.row c.args.word e.shape.rows e.shape.lists (subst (λ (s : Shape). c.args.row < s.rows) c.requires.shape c.requires.draft.low) in
     let wide = e.wide in
     let is = c.draft_place-place.ensures in (
       c.requires.table,
