@@ -1,32 +1,47 @@
-use crate::{Delivery, Handed, MeetTarget, PlainTarget, Roster, Target, sum};
+ghost use Rattle.std.specs.Prelude.{◌≡◌, ◌<◌, ◌≤◌, length, vec_len, IfOk};
+ghost use Rattle.target_core.specs.Seats.{sum_of};
+
+use crate::{CONSUMERS, Delivery, Handed, MeetTarget, PlainTarget, Roster, Target, sum};
 use std::alloc::Global;
 use std::process::Abort;
 use std::test::Fail;
 use std::thread;
 
-const BODY: &[u8] = b"hi";
-
-// The delivery of BODY to this consumer: 1 times 104 and 2 times 105 are 314.
-fn delivery(consumer: u32) -> Delivery {
+// The delivery of a short body to this consumer.
+fn delivery(consumer: u32, body: &[u8]) -> Delivery
+    requires { length body.now ≤ 1048576 }
+    ensures consumer { result.consumer ≡ consumer }
+    ensures length { result.length ≡ length body.now }
+    ensures sum { result.sum ≡ sum_of body.now }
+{
     Delivery {
         consumer,
         queue: 0,
         id: 7,
         delivered: 1,
-        length: 2,
-        sum: sum(BODY),
+        length: body.len() as u64,
+        sum: sum(body),
     }
 }
 
-// Hands BODY to a target.
+// Hands a body to a target: `hi`.
 fn handed<T: Target>(target: &mut T) -> bool {
-    target.hand(delivery(3), BODY)
+    target.hand(delivery(3, b"hi"), b"hi")
+}
+
+// Hands it to the target of this consumer.
+fn handed_by(roster: &mut Roster, consumer: u32) -> Handed
+    requires { consumer < 64 }
+{
+    roster.hand(delivery(consumer, b"hi"), b"hi")
 }
 
 // 64 targets, each of which takes one delivery at most.
-fn targets(alloc: Global) -> Result<Vec<Box<dyn Target>>, Fail> {
+fn targets(alloc: Global) -> Result<Vec<Box<dyn Target>>, Fail>
+    ensures { IfOk result (λ targets. vec_len targets ≡ 64) }
+{
     let mut targets: Vec<Box<dyn Target>> = Vec::new(alloc);
-    for _ in 0..64 {
+    for count in 0..CONSUMERS {
         targets.push(Box::new(alloc, PlainTarget::make(alloc, Some(1)))?)?;
     }
     Ok(targets)
@@ -35,7 +50,8 @@ fn targets(alloc: Global) -> Result<Vec<Box<dyn Target>>, Fail> {
 #[test]
 fn sums(rt: HostRuntime) {
     assert_eq!(rt; sum(b""), 0);
-    assert_eq!(rt; sum(BODY), 314);
+    // 1 times 104, and 2 times 105.
+    assert_eq!(rt; sum(b"hi"), 314);
     assert_eq!(rt; sum(&[0, 255, 1]), 513);
 }
 
@@ -52,7 +68,7 @@ fn up_to_the_limit(rt: HostRuntime) -> Result<(), Fail> {
     target.prepare(1)?;
     assert!(rt; !handed(&mut target));
     assert_eq!(rt; target.deliveries().len(), 2);
-    assert_eq!(rt; target.deliveries()[1], delivery(3));
+    assert_eq!(rt; target.deliveries().last().map(|d| d.sum), Some(314));
     Ok(())
 }
 
@@ -61,11 +77,11 @@ fn ample(rt: HostRuntime) -> Result<(), Fail> {
     let mut roster = Roster::of(targets(rt.alloc())?);
     let mut other = Roster::bare(rt.alloc())?;
     assert_eq!(rt; other.room(5), None);
-    assert_eq!(rt; other.hand(delivery(5), BODY), Handed::Closed);
-    assert_eq!(rt; roster.hand(delivery(5), BODY), Handed::NoCredit);
+    assert_eq!(rt; handed_by(&mut other, 5), Handed::Closed);
+    assert_eq!(rt; handed_by(&mut roster, 5), Handed::NoCredit);
     roster.prepare(5, 2)?;
     assert_eq!(rt; roster.room(5), Some(1));
-    assert_eq!(rt; roster.hand(delivery(5), BODY), Handed::Taken);
+    assert_eq!(rt; handed_by(&mut roster, 5), Handed::Taken);
     assert_eq!(rt; roster.room(5), Some(0));
     assert!(rt; roster.close(6));
     assert!(rt; !roster.close(6));
