@@ -23,5 +23,4 @@ mod view;
 pub use draft::{Draft, Drawn, Linking};
 pub use entries::Entries;
 pub use pass::Pass;
-pub use states::Exchanged;
 pub use view::{Drawing, Ruling, Shape, Told, View};
