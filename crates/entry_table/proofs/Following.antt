@@ -21,7 +21,7 @@ use Rattle.queue_model.proofs.SoundSteps.{list_found}
 use Rattle.queue_model.proofs.Stable.{found_in_list}
 use Rattle.link_core.specs.Layout.{row_link_of, head_of}
 use Rattle.link_core.specs.Stands.{Points, Chain, Stands}
-use Rattle.link_core.specs.Steps.{shown}
+use Rattle.link_core.specs.Steps.{shown as word_shown}
 use Rattle.link_core.specs.Table.{Table}
 use Rattle.link_core.proofs.Leading.{chain_points, row_points}
 use Rattle.acts_core.specs.Walks.{node_at, reach, IsOfList, IsStop, AreDeleted, Follows, FollowsTo}
@@ -222,7 +222,7 @@ tells q l w n front behind apart whole long points = record {
 }
 
 -- what the link of a stop shows in words that stand for the queue tells
-pub link_tells : (t : Table) (q : Queue) (l w : ℕ) → Stands t q → l < t.lists → IsStop q l w → LinkTells q l w (shown t (Load (names.Link (node_at l w))))
+pub link_tells : (t : Table) (q : Queue) (l w : ℕ) → Stands t q → l < t.lists → IsStop q l w → LinkTells q l w (word_shown t (Load (names.Link (node_at l w))))
 link_tells t q l zero s inside stop = tells q l 0 (slice_index t.words (head_of t.rows l)) [] (rows_of q l) s.sound.rows_apart refl refl (chain_points t.words (slice_index t.words (head_of t.rows l)) (rows_of q l) (s.links l inside))
 link_tells t q l (suc r) s inside stop =
     let there = found_there q l r stop.0 stop.1 stop.2 in
