@@ -1,8 +1,10 @@
 -- what the link behind a stop of a list tells
-use Rattle.std.proofs.Common.{◌≡◌, ◌≢◌, ◌⊎◌, inl, inr, ℕ, zero, suc, ◌+◌, ◌≤◌, ◌<◌, ◌==◌, Bool, true, false, Option, Some, None, List, [], ◌∷◌, ◌++◌, length, filter, find, refl, sym, ap, ◌∙◌, subst, ⊎_elim, append_assoc, length-append, eq-eqb, ne_eqb, eqb-true, arith}
+use Rattle.std.proofs.Common.{◌≡◌, ◌≢◌, ◌⊎◌, inl, inr, ℕ, zero, suc, ◌+◌, ◌-◌, ◌≤◌, ◌<◌, ◌==◌, Bool, true, false, cond, Option, Some, None, List, [], ◌∷◌, ◌++◌, length, filter, find, refl, sym, ap, ◌∙◌, subst, ⊎_elim, append_assoc, length-append, eq-eqb, ne_eqb, eqb-true, arith}
 use Rattle.std.proofs.lemmas.Bool.{cases_Bool, cond-true, cond-false, eqb-false}
 use Rattle.std.specs.List.{AllByRecursion, position_or_len}
 use Rattle.std.specs.Prelude.{slice_index}
+use mathlib.Core.List.{IsPrefix}
+use Rattle.queue_model.specs.declared.deeds.Deed.{Deed}
 use Rattle.queue_model.specs.declared.queues.Queue.{Queue}
 use Rattle.queue_model.specs.declared.rows.Row.{Row}
 use Rattle.queue_model.specs.declared.rows.RowState.TheVariants.{Deleted}
@@ -10,6 +12,7 @@ use Rattle.queue_model.specs.declared.steps.Node.{Node}
 use Rattle.queue_model.specs.declared.steps.Node.TheVariants as nodes
 use Rattle.queue_model.specs.declared.steps.Step.TheVariants.{Load}
 use Rattle.queue_model.specs.declared.steps.WordName.TheVariants as names
+use Rattle.queue_model.specs.History.{after}
 use Rattle.queue_model.specs.Keyed.{Apart}
 use Rattle.queue_model.specs.Sound.{same_number}
 use Rattle.queue_model.specs.State.{is_row, row_at, is_of_list, rows_of, list_at, place_at}
@@ -18,11 +21,20 @@ use Rattle.queue_model.proofs.SoundSteps.{list_found}
 use Rattle.queue_model.proofs.Stable.{found_in_list}
 use Rattle.link_core.specs.Layout.{row_link_of, head_of}
 use Rattle.link_core.specs.Stands.{Points, Chain, Stands}
-use Rattle.link_core.specs.Steps.{shown}
+use Rattle.link_core.specs.Steps.{shown as word_shown}
 use Rattle.link_core.specs.Table.{Table}
 use Rattle.link_core.proofs.Leading.{chain_points, row_points}
-use Rattle.acts_core.specs.Walks.{reach, IsOfList, IsStop, AreDeleted}
-use Rattle.acts_core.proofs.Walking.{find-behind}
+use Rattle.acts_core.specs.Walks.{node_at, reach, IsOfList, IsStop, AreDeleted, Follows, FollowsTo}
+use Rattle.acts_core.specs.Sight.{on_head}
+use Rattle.acts_core.proofs.Walking.{find-behind, list_later}
+use Rattle.entry_table.specs.declared.pass.Pass.{Pass}
+use Rattle.entry_table.specs.declared.view.Shape.{Shape}
+use Rattle.entry_table.specs.Passes.{Kept, Did, view, opening, seen, shown, allowance, share}
+use Rattle.entry_table.specs.Plays.{Within, Shows}
+use Rattle.entry_table.specs.Sights.{sight}
+use Rattle.entry_table.specs.Views.{entry}
+use Rattle.entry_table.proofs.Counting.{few_rows}
+use Rattle.entry_table.proofs.Sighting.{stepped, same_rights}
 
 -- Places in lists
 
@@ -165,11 +177,6 @@ points_some n (x ∷ xs) some p = ⊎_elim
 
 -- Stops
 
--- the node of a stop
-abbrev pub node_at : ℕ → ℕ → Node
-node_at l zero = nodes.Head l
-node_at l (suc r) = nodes.Row r
-
 -- what the link n of a stop tells of its list
 pub record LinkTells (q : Queue) (l w n : ℕ) : Type 0 where
   pub ends : n ≡ 0 → (m : ℕ) → AreDeleted q l (reach q w) m
@@ -215,7 +222,7 @@ tells q l w n front behind apart whole long points = record {
 }
 
 -- what the link of a stop shows in words that stand for the queue tells
-pub link_tells : (t : Table) (q : Queue) (l w : ℕ) → Stands t q → l < t.lists → IsStop q l w → LinkTells q l w (shown t (Load (names.Link (node_at l w))))
+pub link_tells : (t : Table) (q : Queue) (l w : ℕ) → Stands t q → l < t.lists → IsStop q l w → LinkTells q l w (word_shown t (Load (names.Link (node_at l w))))
 link_tells t q l zero s inside stop = tells q l 0 (slice_index t.words (head_of t.rows l)) [] (rows_of q l) s.sound.rows_apart refl refl (chain_points t.words (slice_index t.words (head_of t.rows l)) (rows_of q l) (s.links l inside))
 link_tells t q l (suc r) s inside stop =
     let there = found_there q l r stop.0 stop.1 stop.2 in
@@ -228,3 +235,76 @@ link_tells t q l (suc r) s inside stop =
       (row_points t.words (slice_index t.words (head_of t.rows l)) k.front stop.0 k.back (subst (Chain t.words (slice_index t.words (head_of t.rows l))) k.whole (s.links l inside)))
     in
     tells q l (suc r) (slice_index t.words (row_link_of r)) (k.front ++ stop.0 ∷ []) k.back s.sound.rows_apart whole (omega (arith, place, there.1, length-append k.front (stop.0 ∷ []))) points
+
+-- Passes
+
+-- the node of a stop that is no head
+pub row_node : (l w : ℕ) → w ≢ 0 → node_at l w ≡ nodes.Row (w - 1)
+row_node l zero some = absurd (some refl)
+row_node l (suc r) some = ap (λ (n : ℕ). nodes.Row n) (let e : r ≡ suc r - 1 = omega arith in e)
+
+-- the place of a row is below the number of rows
+place_low : (shape : Shape) (q : Queue) (r : ℕ) (x : Row) → Within shape q → row_at q r ≡ Some x → place_at q r < shape.rows
+place_low shape q r x w found =
+    let t = found_there q x.slip.list r x found refl in
+    let within = position_in (is_row r) (rows_of q x.slip.list) x t.0 in
+    let few = few_rows shape q w in
+    let part = filter_short (is_of_list x.slip.list) q.rows in
+    omega (arith, t.1, within, few, part)
+  where
+    filter_short : (p : Row → Bool) (xs : List Row) → length (filter p xs) ≤ length xs
+    filter_short p [] = omega arith
+    filter_short p (y ∷ ys) =
+        let rest = filter_short p ys in
+        elim (p y) as (λ b. length (cond b (y ∷ filter p ys) (filter p ys)) ≤ suc (length ys)) [ true ↦ omega (arith, rest) | false ↦ omega (arith, rest) ]
+
+-- a stop of a list is one later
+stop_later : (o : Queue) (ds es : List Deed) (l w : ℕ) → IsPrefix ds es → IsStop (after o ds) l w → IsStop (after o es) l w
+stop_later o ds es l zero p stop = tt
+stop_later o ds es l (suc r) p stop = list_later o ds es l r p stop
+
+-- the entry of a load of a stop's link is on the head link of its list alone
+head_alone : (l w n m : ℕ) (seen : List Deed) → m ≢ l → on_head m (entry (Load (names.Link (node_at l w))) n n seen).step ≡ false
+head_alone l zero n m seen away = ne_eqb l m (λ e. away (sym e))
+head_alone l (suc r) n m seen away = refl
+
+head_first : (l w n : ℕ) (seen : List Deed) → w ≡ 0 → on_head l (entry (Load (names.Link (node_at l w))) n n seen).step ≡ true
+head_first l zero n seen e = eq-eqb l l refl
+head_first l (suc r) n seen e = absurd (omega (arith, e))
+
+-- the link of a stop was loaded
+pub follows : (old new : Pass) (l w n : ℕ) → Kept old new → allowance new ≡ allowance old → share new ≡ share old → Did old new [] → shown new ≡ shown old ++ entry (Load (names.Link (node_at l w))) n n (seen new) ∷ [] → Follows (sight old) (sight new) l w
+follows old new l w n k a s d e = record {
+  entry = entry (Load (names.Link (node_at l w))) n n (seen new);
+  steps = stepped old new [] (entry (Load (names.Link (node_at l w))) n n (seen new) ∷ []) k d e;
+  rights = same_rights old new a s;
+  when = refl;
+  head = λ first. head_first l w n (seen new) first;
+  other = λ m away. head_alone l w n m (seen new) away;
+}
+
+-- what it tells
+told_by : (old new : Pass) (shape : Shape) (l w n : ℕ) → (view old).shape ≡ shape → l < shape.lists → IsStop (after (opening old) (seen old)) l w → Kept old new → Did old new [] → Shows (Load (names.Link (node_at l w))) n (after (opening new) (seen new)) → LinkTells (after (opening old) (seen new)) l w n
+told_by old new shape l w n same inside stop k d s =
+    let stop_new : IsStop (after (opening new) (seen new)) l w = subst (λ (o : Queue). IsStop (after o (seen new)) l w) (sym k.opening) (stop_later (opening old) (seen old) (seen new) l w d.prefix stop) in
+    let lists : s.0.lists ≡ shape.lists = s.1.shaped.lists ∙ new.within.lists ∙ ap (λ (z : Shape). z.lists) (k.shape ∙ same) in
+    let t = link_tells s.0 (after (opening new) (seen new)) l w s.1 (omega (arith, inside, lists)) stop_new in
+    subst (λ (o : Queue). LinkTells (after o (seen new)) l w n) k.opening (subst (λ (m : ℕ). LinkTells (after (opening new) (seen new)) l w m) s.2 t)
+
+-- no row stands behind the stop
+pub follows_none : (old new : Pass) (shape : Shape) (l w n : ℕ) → (view old).shape ≡ shape → l < shape.lists → IsStop (after (opening old) (seen old)) l w → Kept old new → allowance new ≡ allowance old → share new ≡ share old → Did old new []
+    → Shows (Load (names.Link (node_at l w))) n (after (opening new) (seen new)) → shown new ≡ shown old ++ entry (Load (names.Link (node_at l w))) n n (seen new) ∷ [] → n ≡ 0 → FollowsTo (sight old) (sight new) l w None
+follows_none old new shape l w n same inside stop k a s d shows e none =
+    (follows old new l w n k a s d e, (told_by old new shape l w n same inside stop k d shows).ends none)
+
+-- this row does
+pub follows_some : (old new : Pass) (shape : Shape) (l w n : ℕ) → (view old).shape ≡ shape → l < shape.lists → IsStop (after (opening old) (seen old)) l w → Kept old new → allowance new ≡ allowance old → share new ≡ share old → Did old new []
+    → Shows (Load (names.Link (node_at l w))) n (after (opening new) (seen new)) → shown new ≡ shown old ++ entry (Load (names.Link (node_at l w))) n n (seen new) ∷ [] → n ≢ 0
+    → FollowsTo (sight old) (sight new) l w (Some (n - 1)) × ((n - 1 < shape.rows) × (place_at (after (opening new) (seen new)) (n - 1) < shape.rows))
+follows_some old new shape l w n same inside stop k a s d shows e some =
+    let t = (told_by old new shape l w n same inside stop k d shows).leads (n - 1) (omega (arith, some)) in
+    let here : IsOfList (after (opening new) (seen new)) l (n - 1) = subst (λ (o : Queue). IsOfList (after o (seen new)) l (n - 1)) (sym k.opening) t.0 in
+    let rows : (view new).shape.rows ≡ shape.rows = ap (λ (z : Shape). z.rows) (k.shape ∙ same) in
+    let place = place_low (view new).shape (after (opening new) (seen new)) (n - 1) here.0 new.within here.1 in
+    let low = new.within.low (n - 1) here.0 here.1 in
+    ((follows old new l w n k a s d e, t.0, t.1, t.2), (omega (arith, low, rows), omega (arith, place, rows)))
