@@ -8,6 +8,7 @@ mod depths;
 mod draft;
 mod draws;
 mod entries;
+mod follows;
 mod givings;
 mod homes;
 mod links;
