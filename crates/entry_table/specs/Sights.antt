@@ -30,5 +30,5 @@ sight p = record {
 -- the pass is one of this table, which began with an opening; what it has seen is legal
 pub record Serves {C : Type 0} (e : Entries C) (p : Pass) : Type 0 where
   pub pass : IsPassOf e p
-  pub opening : IsOpening (opening p)
   pub legal : Legal (opening p) (seen p)
+  pub opening : IsOpening (opening p)
