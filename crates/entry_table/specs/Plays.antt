@@ -116,6 +116,11 @@ reserved size m n m' = (m'.1 ≡ m.1) × Deepens m.0 m'.0 (steps.Reserve size) (
 abbrev pub gave_back : {S : Type 0} → ℕ → Me S View → ℕ → Me S View → Type 0
 gave_back size m n m' = (m'.1 ≡ m.1) × Deepens m.0 m'.0 (steps.GiveBack size) (acts.GiveBack size) (m.0.allowance + 1) n (n - (entry_worth + size))
 
+-- An entry of this size was reserved.
+pub record DidReserve (v w : View) (size : ℕ) : Type 0 where
+  pub went : Went v w (by_me v (acts.Reserve size) ∷ [])
+  pub view : w ≡ record v { allowance = v.allowance - 1; told = []; seen = w.seen; shown = w.shown }
+
 -- Draws of rows
 
 -- the view after a draw of row t

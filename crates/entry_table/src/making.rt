@@ -39,6 +39,7 @@ impl<C: Freight> Entries<C> {
     /// their order, and the pass of its boss, which has all consumers and may reserve and draw what the
     /// entries leave. Without memory the entries are dropped.
     pub fn make(
+        alloc: Global,
         lists: u32,
         rows: u64,
         consumers: u32,
@@ -56,14 +57,14 @@ impl<C: Freight> Entries<C> {
             lists,
             consumers,
         };
-        match Self::blank(shape) {
+        match Self::blank(alloc, shape) {
             Ok((entries, pass)) => Ok(entries.opened(pass, start)),
             Err(_) => Err(NoMemory),
         }
     }
 
     // A table with no row, and the pass of the boss.
-    fn blank(shape: Shape) -> Result<(Entries<C>, Pass), AllocError>
+    fn blank(alloc: Global, shape: Shape) -> Result<(Entries<C>, Pass), AllocError>
         requires lists { shape.lists ≤ 10 }
         requires rows { shape.rows ≤ 524288 }
         requires consumers { shape.consumers ≤ 64 }
@@ -72,10 +73,10 @@ impl<C: Freight> Entries<C> {
         ensures view { IfOk result (λ r. view r.1 ≡ boss shape) }
         ensures caller { IfOk result (λ r. r.1.caller ≡ 0) }
     {
-        let parcels = Vec::with_capacity(Global, shape.rows as usize)?;
-        let rest = Vec::with_capacity(Global, shape.rows as usize)?;
-        let words = fresh_words(Global, 1, shape.rows, shape.lists)?;
-        let (table, seat) = Table::vacant(Global, words.as_slice(), shape.rows as usize, &shape)?;
+        let parcels = Vec::with_capacity(alloc, shape.rows as usize)?;
+        let rest = Vec::with_capacity(alloc, shape.rows as usize)?;
+        let words = fresh_words(alloc, 1, shape.rows, shape.lists)?;
+        let (table, seat) = Table::vacant(alloc, words.as_slice(), shape.rows as usize, &shape)?;
         let entries = Entries {
             table,
             shape,
