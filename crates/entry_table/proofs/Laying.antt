@@ -17,7 +17,7 @@ use Rattle.queue_model.specs.declared.steps.Node.TheVariants as nodes
 use Rattle.queue_model.specs.declared.steps.Step.TheVariants as steps
 use Rattle.queue_model.specs.History.{after, Legal, deed}
 use Rattle.queue_model.specs.Keyed.{alter}
-use Rattle.queue_model.specs.State.{row_at, rows_of, is_holder, is_row, nothing, reserved_by}
+use Rattle.queue_model.specs.State.{row_at, rows_of, list_at, is_holder, is_row, nothing, reserved_by}
 use Rattle.queue_model.specs.Table.{acted, reserving, more, less, CanGive}
 use Rattle.queue_model.proofs.Histories.{after-append, legal_rest}
 use Rattle.queue_model.proofs.KeyedLemmas.{find-here, find_passes, find-alter}
@@ -151,10 +151,11 @@ empty_link t q row (nodes.Head l) s known last =
     subst (λ (xs : List Row). Chain t.words (slice_index t.words (link_of t.rows (nodes.Head l))) xs) last (s.links l few)
 empty_link t q row (nodes.Row a) s known last =
     let same = s.shaped.lists in
-    let low = last.3 in
-    let few : last.0 < t.lists = omega (arith, same, low) in
-    subst (λ (k : ℕ). slice_index t.words (row_link_of k) ≡ 0) last.5
-        (chain_last (slice_index t.words (link_of t.rows (nodes.Head last.0))) t.words last.1 last.2 (subst (λ (xs : List Row). Chain t.words (slice_index t.words (link_of t.rows (nodes.Head last.0))) xs) last.4 (s.links last.0 few)))
+    let l : ℕ = list_at q a in
+    let low = last.2 in
+    let few : l < t.lists = omega (arith, same, low) in
+    subst (λ (k : ℕ). slice_index t.words (row_link_of k) ≡ 0) last.4
+        (chain_last (slice_index t.words (link_of t.rows (nodes.Head l))) t.words last.0 last.1 (subst (λ (xs : List Row). Chain t.words (slice_index t.words (link_of t.rows (nodes.Head l))) xs) last.3 (s.links l few)))
 
 -- One entry
 
@@ -217,47 +218,64 @@ module _ {C : Type 0} (load : C → Load) where
         }
 
     -- no other link can be there
-    pub no_block : (u : View) (draft : Draft C) (back : ℕ) (cargo : C) (k : ℕ) → Blocked v3 u draft back cargo (node_of slip.list w) k → ⊥
-    no_block u draft back cargo k b =
+    pub no_block : (u : View) (draft : Draft C) (back : ℕ) (cargo : C) (node : Node) (k : ℕ) → node ≡ node_of slip.list w → Blocked v3 u draft back cargo node k → ⊥
+    no_block u draft back cargo node k is b =
         let q : Queue = state_in v in
-        let node : Node = node_of slip.list w in
+        let known : IsKnown q node = subst (IsKnown q) (sym is) can.end.known in
+        let last : NoneBehind q node = subst (NoneBehind q) (sym is) can.end.last in
         let now : after v3.opening u.seen ≡ reserving q 0 slip.size = ap (after v3.opening) (b.went.alone alone_3 ∙ append-nil v3.seen) ∙ state_3 in
         let stands : Stands b.shows.0 (reserving q 0 slip.size) = subst (Stands b.shows.0) now b.shows.1 in
-        b.other (sym b.shows.2 ∙ empty_link b.shows.0 (reserving q 0 slip.size) draft.row node stands (known_reserving q 0 slip.size node can.end.known) (none_reserving q 0 slip.size node can.end.last))
+        b.other (sym b.shows.2 ∙ empty_link b.shows.0 (reserving q 0 slip.size) draft.row node stands (known_reserving q 0 slip.size node known) (none_reserving q 0 slip.size node last))
 
     -- the entry is laid down
-    pub lay_done : (u : View) (draft : Draft C) → draft.row ≡ row → draft.cargo ≡ c → DidEnter load v3 u draft (node_of slip.list w) → DidLay load v u slip c row
-    lay_done u draft same_row same_cargo e =
-        let q : Queue = state_in v in
-        let l : Load = load c in
-        let both : Some e.d ≡ Some (drawing_of row n slip) = sym e.drawing ∙ (ap (drawing_at v3) same_row ∙ t.drawing) in
-        let is_d : e.d ≡ drawing_of row n slip = cc in
-        let slip' : Slip = slip_of (drawing_of row n slip) in
-        let is_slip : slip' ≡ slip = λ i. record slip { key = sym can.may.key i } in
-        let a : Act = enters draft.row e.d (load draft.cargo) in
-        let a' : Act = acts.Enq row slip' l.content l.origin l.count in
-        let is_a : a ≡ a' = λ i. enters (same_row i) (is_d i) (load (same_cargo i)) in
-        let x : Row = entered row slip' l.content l.origin l.count in
-        let k_3 : caller_of v3.callers ≡ 0 = ap caller_of callers_3 ∙ zero_caller in
-        let deeds : by_me v3 a ∷ [] ≡ deed 0 a' ∷ [] = λ i. deed (k_3 i) (is_a i) ∷ [] in
-        let now : state_in u ≡ acted (reserving q 0 slip.size) 0 a' =
-            state_more v3 u (by_me v3 a ∷ []) alone_3 e.went (ap (λ (z : View). z.opening) e.view)
-            ∙ (ap (after (state_in v3)) deeds ∙ ap (λ (z : Queue). acted z 0 a') state_3) in
-        let legal : Legal v3.opening (v3.seen ++ deed 0 a' ∷ []) = subst (Legal v3.opening) (e.went.alone alone_3 ∙ ap (λ (ds : List Deed). v3.seen ++ ds) deeds) e.went.steps.legal in
-        let fits = (legal_rest v3.opening v3.seen (deed 0 a' ∷ []) legal).0 in
-        let G3 : View → View = λ z. record z { reached = u.reached; drawn = drawn_without draft.row v3.drawn; told = []; seen = u.seen; shown = u.shown } in
-        let G2 : View → View = λ z. record z { drawn = v3.drawn; told = []; seen = v3.seen } in
-        let G1 : View → View = λ z. record z { share = z.share - 1; reached = row + 1; drawn = blank_drawing row ∷ z.drawn; told = []; seen = v2.seen; shown = v2.shown } in
-        let nested : u ≡ G3 (G2 (G1 (record v { allowance = v.allowance - 1; told = []; seen = v1.seen; shown = v1.shown }))) = e.view ∙ ap G3 (t.view ∙ ap G2 (d.view ∙ ap G1 r.view)) in
-        record {
-          x = x;
-          started = record {
-            slip_is = is_slip;
-            state = refl;
-            same = record { id = can.may.id; size = can.may.size; count = refl; content = refl; origin = refl };
-          };
-          number = refl;
-          new = ap (λ (z : Queue). row_at z row) (sym state_3) ∙ fits.new;
-          state = now ∙ ap (λ (s : Slip). acted (reserving q 0 s.size) 0 (acts.Enq row slip' l.content l.origin l.count)) (sym is_slip) ∙ entered_one q row slip' l.content l.origin l.count can.reserved;
-          view = nested ∙ ap (λ (z : View). record v { allowance = v.allowance - 1; share = v.share - 1; reached = z.reached; drawn = z.drawn; told = []; seen = z.seen; shown = z.shown }) (sym nested);
-        }
+    pub lay_done : (u : View) (draft : Draft C) (node : Node) → draft.row ≡ row → draft.cargo ≡ c → DidEnter load v3 u draft node → DidLay load v u slip c draft.row
+    lay_done u draft node same_row same_cargo e = subst (DidLay load v u slip c) (sym same_row) done where
+      done : DidLay load v u slip c row
+      done =
+          let q : Queue = state_in v in
+          let l : Load = load c in
+          let both : Some e.d ≡ Some (drawing_of row n slip) = sym e.drawing ∙ (ap (drawing_at v3) same_row ∙ t.drawing) in
+          let is_d : e.d ≡ drawing_of row n slip = cc in
+          let slip' : Slip = slip_of (drawing_of row n slip) in
+          let is_slip : slip' ≡ slip = λ i. record slip { key = sym can.may.key i } in
+          let a : Act = enters draft.row e.d (load draft.cargo) in
+          let a' : Act = acts.Enq row slip' l.content l.origin l.count in
+          let is_a : a ≡ a' = λ i. enters (same_row i) (is_d i) (load (same_cargo i)) in
+          let x : Row = entered row slip' l.content l.origin l.count in
+          let k_3 : caller_of v3.callers ≡ 0 = ap caller_of callers_3 ∙ zero_caller in
+          let deeds : by_me v3 a ∷ [] ≡ deed 0 a' ∷ [] = λ i. deed (k_3 i) (is_a i) ∷ [] in
+          let now : state_in u ≡ acted (reserving q 0 slip.size) 0 a' =
+              state_more v3 u (by_me v3 a ∷ []) alone_3 e.went (ap (λ (z : View). z.opening) e.view)
+              ∙ (ap (after (state_in v3)) deeds ∙ ap (λ (z : Queue). acted z 0 a') state_3) in
+          let legal : Legal v3.opening (v3.seen ++ deed 0 a' ∷ []) = subst (Legal v3.opening) (e.went.alone alone_3 ∙ ap (λ (ds : List Deed). v3.seen ++ ds) deeds) e.went.steps.legal in
+          let fits = (legal_rest v3.opening v3.seen (deed 0 a' ∷ []) legal).0 in
+          let G3 : View → View = λ z. record z { reached = u.reached; drawn = drawn_without draft.row v3.drawn; told = []; seen = u.seen; shown = u.shown } in
+          let G2 : View → View = λ z. record z { drawn = v3.drawn; told = []; seen = v3.seen } in
+          let G1 : View → View = λ z. record z { share = z.share - 1; reached = row + 1; drawn = blank_drawing row ∷ z.drawn; told = []; seen = v2.seen; shown = v2.shown } in
+          let nested : u ≡ G3 (G2 (G1 (record v { allowance = v.allowance - 1; told = []; seen = v1.seen; shown = v1.shown }))) = e.view ∙ ap G3 (t.view ∙ ap G2 (d.view ∙ ap G1 r.view)) in
+          record {
+            x = x;
+            started = record {
+              slip_is = is_slip;
+              state = refl;
+              same = record { id = can.may.id; size = can.may.size; count = refl; content = refl; origin = refl };
+            };
+            number = refl;
+            new = ap (λ (z : Queue). row_at z row) (sym state_3) ∙ fits.new;
+            state = now ∙ ap (λ (s : Slip). acted (reserving q 0 s.size) 0 (acts.Enq row slip' l.content l.origin l.count)) (sym is_slip) ∙ entered_one q row slip' l.content l.origin l.count can.reserved;
+            view = nested ∙ ap (λ (z : View). record v { allowance = v.allowance - 1; share = v.share - 1; reached = z.reached; drawn = z.drawn; told = []; seen = z.seen; shown = z.shown }) (sym nested);
+          }
+
+-- the row stays drawn over a store
+pub still_drawn : (v w : View) (row r : ℕ) (word : DraftWord) (value : ℕ) → IsDrawnBy v row → w ≡ stored_view v row word value w.seen → r ≡ row → IsDrawnBy w r
+still_drawn v w row r word value d e same =
+    let shape : w.shape.rows ≡ v.shape.rows = ap (λ (z : View). z.shape.rows) e in
+    let low = d.low in record {
+      d = with_word word value d.d;
+      drawing = ap (λ (k : ℕ). drawing_at w k) same ∙ stored_drawing v w row word value d.d d.drawing e;
+      low = omega (arith, low, shape, same);
+    }
+
+-- one word more, of a row that is named otherwise
+pub word_more : (v u w : View) (row r : ℕ) (word : DraftWord) (value : ℕ) (d : Drawing) → r ≡ row → Writes v u row d → Went u w [] → w ≡ stored_view u r word value w.seen → Writes v w row (with_word word value d)
+word_more v u w row r word value d same s went e = next_word v u w row word value d s went (subst (λ (k : ℕ). w ≡ stored_view u k word value w.seen) same e)

@@ -12,6 +12,7 @@ pub mod Places
 pub mod Joining
 pub mod Seeking
 pub mod Laying
+pub mod Ends
 pub mod Splitting
 pub mod Ending
 pub mod Changing

@@ -9,7 +9,7 @@ use Rattle.queue_model.specs.declared.rows.Slip.{Slip}
 use Rattle.queue_model.specs.declared.steps.Node.{Node}
 use Rattle.queue_model.specs.declared.steps.Node.TheVariants as nodes
 use Rattle.queue_model.specs.Sound.{IsOpening}
-use Rattle.queue_model.specs.State.{row_at, rows_of}
+use Rattle.queue_model.specs.State.{row_at, rows_of, list_at}
 use Rattle.queue_model.specs.Table.{FitsQueue, most_entries}
 use Rattle.acts_core.specs.Load.{Load}
 use Rattle.acts_core.specs.Moments.{IsLoadOf}
@@ -77,7 +77,7 @@ node_of l (suc r) = nodes.Row r
 -- nothing stands behind the node
 abbrev pub NoneBehind : Queue → Node → Type 0
 NoneBehind q (nodes.Head l) = rows_of q l ≡ []
-NoneBehind q (nodes.Row a) = (l : ℕ) × (front : List Row) × (x : Row) × (l < q.lists) × (rows_of q l ≡ front ++ x ∷ []) × (x.number ≡ a)
+NoneBehind q (nodes.Row a) = (front : List Row) × (x : Row) × (list_at q a < q.lists) × (rows_of q (list_at q a) ≡ front ++ x ∷ []) × (x.number ≡ a)
 
 -- the node that w names is the last of list l, which has n rows
 pub record IsEnd (q : Queue) (l w n : ℕ) : Type 0 where

@@ -142,13 +142,12 @@ impl<C: Freight> Entries<C> {
         ensures table { IsPassOf self.now pass.new }
         ensures caller { pass.new.caller ≡ 0 }
         ensures laid { IsLaid C.goods start.items (view pass.new) }
-        ensures shown { (view pass.new).slot ≡ None }
     {
-        let mut start = start;
-        start.as_mut_slice().reverse();
+        let mut rest = start;
+        rest.as_mut_slice().reverse();
         let mut stops = [0u64; MOST_LISTS];
         let mut places = [0u64; MOST_LISTS];
-        'start: while let Some((slip, cargo)) = start.pop() {
+        'entries: while let Some((slip, cargo)) = rest.pop() {
             let list = slip.list as usize;
             let row = self.lay(pass, stops[list], places[list], slip, cargo);
             stops[list] = row + 1;
