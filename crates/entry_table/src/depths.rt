@@ -8,10 +8,10 @@ ghost use Rattle.entry_table.specs.Plays.{DepthShown, DidReserve, reserved};
 ghost use Rattle.entry_table.specs.Passes.{IsPassOf, Kept, Did, ShowsDepth, view, allowance, share, drawn};
 
 use crate::entries::Entries;
-use acts_core::Freight;
 use crate::pass::Pass;
 use crate::plays::Reserves;
 use crate::view::View;
+use acts_core::Freight;
 use atomic_table::{Badge, Seat};
 use queue_model::{Depth, ENTRY_WORTH};
 use std::mem;

@@ -7,10 +7,10 @@ ghost use Rattle.entry_table.specs.Passes.{IsPassOf, Kept, Did, view, seen, allo
 
 use crate::draft::{Draft, Drawn};
 use crate::entries::Entries;
-use acts_core::Freight;
 use crate::pass::Pass;
 use crate::plays::{Draws, Stores, Storing};
 use crate::view::View;
+use acts_core::Freight;
 use atomic_table::{Badge, Seat};
 use link_core::places::{TOP, draft_place};
 use queue_model::DraftWord;

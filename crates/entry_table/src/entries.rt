@@ -2,8 +2,8 @@
 ghost use Rattle.link_core.specs.Layout.{words_of};
 ghost use Rattle.std.specs.Prelude.{◌≡◌, ◌+◌, ◌*◌, ◌≤◌, vec_len, vec_capacity};
 
-use acts_core::{Freight, RestEntry};
 use crate::view::{Ruling, Shape, View};
+use acts_core::{Freight, RestEntry};
 use atomic_table::Table;
 use std::alloc::Global;
 

@@ -1,8 +1,8 @@
 //! What each step tells.
 ghost use Rattle.std.specs.Prelude.{ℕ};
 
-use acts_core::Freight;
 use crate::view::View;
+use acts_core::Freight;
 use atomic_table::{Join, Play, Split};
 use std::marker::{Brand, PhantomData};
 

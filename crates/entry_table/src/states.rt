@@ -12,9 +12,9 @@ ghost use Rattle.queue_model.specs.declared.rows.RowState.TheVariants.{Locked};
 ghost use Rattle.entry_table.specs.Passes.{IsPassOf, Kept, Did, view, state, allowance, share};
 
 use crate::entries::Entries;
-use acts_core::Freight;
 use crate::pass::Pass;
 use crate::view::View;
+use acts_core::Freight;
 use atomic_table::{Badge, Play, Seat};
 use link_core::places::{state_of, state_place, state_word};
 use queue_model::{Change, RowState};
