@@ -80,7 +80,7 @@ below_all o ask l n begin seen p gone f y is list =
 
 -- What the steps of a call tell
 
-find-behind : {X : Type 0} (p : X → Bool) (xs ys : List X) → find p xs ≡ None → find p (xs ++ ys) ≡ find p ys
+pub find-behind : {X : Type 0} (p : X → Bool) (xs ys : List X) → find p xs ≡ None → find p (xs ++ ys) ≡ find p ys
 find-behind p [] ys e = refl
 find-behind p (x ∷ xs) ys e = find-past p x (xs ++ ys) (find_none-head p x xs e) ∙ find-behind p xs ys (find_none-tail p x xs e)
 

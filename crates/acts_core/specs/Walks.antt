@@ -6,6 +6,8 @@ use Rattle.queue_model.specs.declared.deeds.Deed.{Deed}
 use Rattle.queue_model.specs.declared.queues.Queue.{Queue}
 use Rattle.queue_model.specs.declared.rows.Row.{Row}
 use Rattle.queue_model.specs.declared.rows.RowState.TheVariants.{Deleted}
+use Rattle.queue_model.specs.declared.steps.Node.{Node}
+use Rattle.queue_model.specs.declared.steps.Node.TheVariants as nodes
 use Rattle.queue_model.specs.declared.steps.Tried.{Tried}
 use Rattle.queue_model.specs.History.{after}
 use Rattle.queue_model.specs.State.{row_at, place_at}
@@ -58,6 +60,11 @@ FailedBelow o ask l n begin seen =
 abbrev pub reach : Queue → ℕ → ℕ
 reach q zero = 0
 reach q (suc r) = suc (place_at q r)
+
+-- the node of a stop
+abbrev pub node_at : ℕ → ℕ → Node
+node_at l zero = nodes.Head l
+node_at l (suc r) = nodes.Row r
 
 -- the queue has row r, and it is in list l
 abbrev pub IsOfList : Queue → ℕ → ℕ → Type 0

@@ -26,3 +26,4 @@ pub mod Tailing
 pub mod Giving
 pub mod Bringing
 pub mod Sighting
+pub mod Following

@@ -1,5 +1,5 @@
 -- what each step tells
-use Rattle.std.specs.Prelude.{true, false, not, filter, ◌≡◌, ◌≢◌, ℕ, zero, suc, ◌+◌, ◌-◌, ◌<◌, ◌≤◌, ◌*◌, ◌^◌, Option, Some, None, List, [], ◌∷◌, ◌++◌, slice_index, length}
+use Rattle.std.specs.Prelude.{true, false, not, filter, ◌≡◌, ◌≢◌, ℕ, zero, suc, ◌+◌, ◌-◌, ◌<◌, ◌≤◌, ◌*◌, ◌^◌, Option, Some, None, Result, Ok, Err, List, [], ◌∷◌, ◌++◌, slice_index, length}
 use mathlib.Core.List.{IsPrefix}
 use Rattle.atomic_table.specs.Table.{Me, Step as Played, rest}
 use Rattle.queue_model.specs.declared.deeds.Act.{Act}
@@ -21,8 +21,6 @@ use Rattle.entry_table.specs.declared.draft.Drawn.{Drawn}
 use Rattle.entry_table.specs.declared.draft.Drawn.TheVariants.{Row as DrawnRow, Spent}
 use Rattle.entry_table.specs.declared.draft.Linking.{Linking}
 use Rattle.entry_table.specs.declared.draft.Linking.TheVariants.{Linked, Behind}
-use Rattle.entry_table.specs.declared.states.Exchanged.{Exchanged}
-use Rattle.entry_table.specs.declared.states.Exchanged.TheVariants.{Done, Shown as ShownState}
 use Rattle.queue_model.specs.declared.steps.Change.TheVariants as changes
 use Rattle.queue_model.specs.State.{IsIn}
 use Rattle.queue_model.specs.History.{after, Legal, own, deed, deeds_of}
@@ -479,8 +477,6 @@ pub record ShowsState (v w : View) (row : ℕ) (change : Change) (from s : RowSt
 
 module _ {C : Type 0} (load : C → Load) where
   -- The exchange hit, and then the row's slot was given back; or it showed another state.
-  abbrev pub Taking : ℕ → Change → RowState → View → View → Exchanged C → Type 0
-  Taking row change from v w (Done None) = ⊥
-  Taking row change from v w (Done (Some c)) = (u : View) × (x : Row) × Carries (load c) x × DidChange v u row change from (Some row) (act_with 0 change row) x × Slotted u w None
-  Taking row change from v w (ShownState s None) = ShowsState v w row change from s
-  Taking row change from v w (ShownState s (Some c)) = ⊥
+  abbrev pub Taking : ℕ → Change → RowState → View → View → Result C RowState → Type 0
+  Taking row change from v w (Ok c) = (u : View) × (x : Row) × Carries (load c) x × DidChange v u row change from (Some row) (act_with 0 change row) x × Slotted u w None
+  Taking row change from v w (Err s) = ShowsState v w row change from s
