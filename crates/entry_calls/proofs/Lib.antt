@@ -1,3 +1,6 @@
 pub mod Changes
 pub mod Replying
 pub mod Dequeuing
+pub mod Running
+pub mod Turning
+pub mod Putting

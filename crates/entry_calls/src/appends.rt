@@ -17,7 +17,12 @@ use queue_model::{DraftWord, Node, Slip, WordName};
 
 /// Puts an entry, in place of a reserved one of its size, at the end of its list. It is `Spent` exactly where
 /// the pass has no row left to draw.
-pub fn enqueue<C: Freight>(entries: &Entries<C>, pass: &mut Pass, slip: &Slip, cargo: C) -> Placed<C>
+pub fn enqueue<C: Freight>(
+    entries: &Entries<C>,
+    pass: &mut Pass,
+    slip: &Slip,
+    cargo: C,
+) -> Placed<C>
     requires serves { Serves entries.now pass.old }
     requires may { MayPut Listed (state pass.old) pass.old.caller slip.now (C.goods cargo) }
     ensures serves { Serves entries.now pass.new }
@@ -70,7 +75,13 @@ fn describe<C: Freight>(entries: &Entries<C>, pass: &mut Pass, draft: &mut Draft
 }
 
 // Links the row behind the last row of its list, which is at the stop or behind it.
-fn link_behind<C: Freight>(entries: &Entries<C>, pass: &mut Pass, draft: Draft<C>, slip: &Slip, tail: u64)
+fn link_behind<C: Freight>(
+    entries: &Entries<C>,
+    pass: &mut Pass,
+    draft: Draft<C>,
+    slip: &Slip,
+    tail: u64,
+)
     requires serves { Serves entries.now pass.old }
     requires described { Described pass.old draft.row slip.now }
     requires enters { Enters (state pass.old) pass.old.caller slip.now (C.goods draft.cargo) }
@@ -93,7 +104,13 @@ fn link_behind<C: Freight>(entries: &Entries<C>, pass: &mut Pass, draft: Draft<C
 }
 
 // Tries to link the row right behind the stop.
-fn turn<C: Freight>(entries: &Entries<C>, pass: &mut Pass, draft: Draft<C>, slip: &Slip, stop: u64) -> Linking<C>
+fn turn<C: Freight>(
+    entries: &Entries<C>,
+    pass: &mut Pass,
+    draft: Draft<C>,
+    slip: &Slip,
+    stop: u64,
+) -> Linking<C>
     requires serves { Serves entries.now pass.old }
     requires described { Described pass.old draft.row slip.now }
     requires enters { Enters (state pass.old) pass.old.caller slip.now (C.goods draft.cargo) }
@@ -122,5 +139,11 @@ fn place_behind<C: Freight>(entries: &Entries<C>, pass: &mut Pass, slip: &Slip, 
         return 0;
     }
     let word = DraftWord::Place;
-    entries.look(pass, WordName::Draft { row: stop - 1, word }) + 1
+    entries.look(
+        pass,
+        WordName::Draft {
+            row: stop - 1,
+            word,
+        },
+    ) + 1
 }
