@@ -11,6 +11,8 @@ pub mod Entering
 pub mod Places
 pub mod Joining
 pub mod Seeking
+pub mod Laying
+pub mod Ends
 pub mod Splitting
 pub mod Ending
 pub mod Changing

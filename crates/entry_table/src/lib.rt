@@ -13,6 +13,7 @@ mod givings;
 mod homes;
 mod links;
 mod loads;
+mod making;
 mod pass;
 mod plays;
 mod rest;
