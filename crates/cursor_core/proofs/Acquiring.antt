@@ -112,7 +112,7 @@ pub takes_ready : {C : Type 0} (load : C → Load) (old new : Pass) (row : ℕ) 
 takes_ready {C} load old new row None k a s t = absurd t
 takes_ready {C} load old new row (Some c) k a s t = acquired load old new row c k a s t
 
-pub shows_ready : {C : Type 0} (load : C → Load) (old new : Pass) (row : ℕ) (s : RowState) (o : Option C) → Kept old new → allowance new ≡ allowance old → share new ≡ share old → Taking load row changes.Acq Available (view old) (view new) (ShownState s o) → TakesReady (sight old) (sight new) row None
+pub shows_ready : {C : Type 0} (load : C → Load) (old new : Pass) (row : ℕ) (s : RowState) (o : Option C) → Kept old new → allowance new ≡ allowance old → share new ≡ share old → Taking load row changes.Acq Available (view old) (view new) (ShownState s o) → TakesReady (sight old) (sight new) row (option_map load o)
 shows_ready {C} load old new row s None k a sh t = missed load old new row s k a sh t
 shows_ready {C} load old new row s (Some c) k a sh t = absurd t
 
@@ -188,3 +188,10 @@ tries_free old mid new c row mask y (Some load) k a s d shows e bit there t =
       };
       free = wanted_free c t.hands.row t.ready (ap (λ (n : ℕ). bit_at n c) mask_then ∙ bit);
     }
+
+-- a row that was known is known later
+pub known_later : (old new : Pass) (row : ℕ) → Kept old new → Did old new [] → (x : Row) × (row_at (after (opening old) (seen old)) row ≡ Some x) → (y : Row) × (row_at (after (opening new) (seen new)) row ≡ Some y)
+known_later old new row k d there =
+    let t = row_stays (after (opening old) (seen old)) d.prefix.0 row there.0 there.1 in
+    let found : row_at (after (opening old) (seen new)) row ≡ Some t.0 = subst (λ (q : Queue). row_at q row ≡ Some t.0) (after_rest (opening old) (seen old) (seen new) d.prefix) t.1 in
+    (t.0, subst (λ (o : Queue). row_at (after o (seen new)) row ≡ Some t.0) (sym k.opening) found)

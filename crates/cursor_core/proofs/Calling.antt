@@ -1,5 +1,6 @@
 -- a call over all lists
-use Rattle.std.proofs.Common.{◌≡◌, ◌≢◌, ℕ, zero, suc, ◌+◌, ◌-◌, ◌<◌, ◌≤◌, Option, Some, None, List, [], ◌∷◌, refl, sym, ap, ◌∙◌, subst, arith}
+use Rattle.std.proofs.Common.{◌≡◌, ◌≢◌, ℕ, true, zero, suc, ◌+◌, ◌-◌, ◌<◌, ◌≤◌, Option, Some, None, List, [], ◌∷◌, refl, sym, ap, ◌∙◌, subst, arith}
+use Rattle.std.specs.Prelude.{IfSome}
 use Rattle.queue_model.specs.declared.deeds.Act.TheVariants.{Acq}
 use Rattle.queue_model.specs.declared.queues.Queue.{Queue}
 use Rattle.queue_model.specs.declared.rows.Row.{Row}
@@ -48,6 +49,11 @@ served e old new s k legal = record {
   legal = subst (λ (o : Queue). Legal o (seen new)) (sym k.opening) legal;
   opening = subst IsOpening (sym k.opening) s.opening;
 }
+
+-- what holds of the value, if there is one
+pub some_of : (P : ℕ → Type 0) (o : Option ℕ) (r : ℕ) → IfSome o P → o ≡ Some r → P r
+some_of P None r p e = absurd (cc)
+some_of P (Some q) r p e = let same : q ≡ r = cc in subst P same p
 
 -- Lists
 

@@ -16,10 +16,15 @@ use queue_model::{Change, DraftWord, RowState, WordName};
 fn wants(mask: u64, consumer: u32) -> bool
     ensures { IsTrue result ↔ (bit_at mask consumer ≡ 1) }
 {
-    consumer < 64 && (mask >> consumer) & 1 == 1
+    if consumer < 64 {
+        (mask >> consumer) & 1 == 1
+    } else {
+        false
+    }
 }
 
-/// Acquires a row if it is available: one exchange of its state.
+/// Acquires a row if it is available: one exchange of its state, which hands out no cargo where it shows
+/// another.
 pub(crate) fn take_ready<C: Freight>(entries: &Entries<C>, pass: &mut Pass, row: u64) -> Option<C>
     requires table { IsPassOf entries.now pass.old }
     requires known { (x : Row) × (row_at (state pass.old) row ≡ Some x) }
@@ -28,7 +33,7 @@ pub(crate) fn take_ready<C: Freight>(entries: &Entries<C>, pass: &mut Pass, row:
 {
     match entries.take_row(pass, row, Change::Acq, RowState::Available) {
         Exchanged::Done(cargo) => cargo,
-        Exchanged::Shown(_, _) => None,
+        Exchanged::Shown(_, cargo) => cargo,
     }
 }
 
