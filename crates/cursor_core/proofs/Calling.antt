@@ -16,10 +16,12 @@ use Rattle.acts_core.specs.Owed.{is_free}
 use Rattle.acts_core.specs.Sight.{Sight, silent_lists}
 use Rattle.acts_core.specs.Walks.{Ask, FreeTo, Ready, Ended, Done, Stopped}
 use Rattle.acts_core.proofs.Answering.{next_empty, next_got, oldest_empty, oldest_got}
-use Rattle.acts_core.proofs.Walking.{done_down, done_up, done_got}
+use Rattle.acts_core.proofs.Running.{lists_stay}
+use Rattle.acts_core.proofs.Walking.{done_none, done_down, done_up, done_got}
 use Rattle.queue_model.proofs.Prefixes.{prefix_trans}
 use Rattle.entry_table.specs.declared.entries.Entries.{Entries}
 use Rattle.entry_table.specs.declared.pass.Pass.{Pass}
+use Rattle.entry_table.specs.declared.view.Shape.{Shape}
 use Rattle.entry_table.specs.Passes.{IsPassOf, Kept, view, opening, seen}
 use Rattle.entry_table.specs.Sights.{sight, Serves}
 use Rattle.cursor_core.specs.Takes.{GotReady, GotFree}
@@ -55,7 +57,15 @@ pub some_of : (P : ℕ → Type 0) (o : Option ℕ) (r : ℕ) → IfSome o P →
 some_of P None r p e = absurd (cc)
 some_of P (Some q) r p e = let same : q ≡ r = cc in subst P same p
 
+-- a table has the lists of its queue
+pub opening_lists : {C : Type 0} (e : Entries C) (p : Pass) → IsPassOf e p → (opening p).lists ≡ e.shape.lists
+opening_lists e p s = sym (lists_stay (opening p) (seen p)).0 ∙ p.within.lists ∙ ap (λ (z : Shape). z.lists) s.shape
+
 -- Lists
+
+-- nothing is walked yet
+pub none_done : (old : Sight) (ask : Ask) (l : ℕ) → Legal old.opening old.seen → l ≡ old.opening.lists → Done old old ask l old.opening.lists
+none_done old ask l legal all = subst (λ (n : ℕ). Done old old ask n old.opening.lists) (sym all) (done_none old ask old.opening.lists legal)
 
 from_pred : (l : ℕ) → 0 < l → suc (l - 1) ≡ l
 from_pred zero some = absurd (omega (arith, some))
