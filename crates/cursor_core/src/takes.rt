@@ -9,7 +9,7 @@ ghost use Rattle.entry_table.specs.Sights.{sight};
 ghost use Rattle.cursor_core.specs.Takes.{TakesReady, TakesFree};
 
 use acts_core::Freight;
-use entry_table::{Entries, Exchanged, Pass};
+use entry_table::{Entries, Pass};
 use queue_model::{Change, DraftWord, RowState, WordName};
 
 // Whether a mask has the bit of a consumer.
@@ -32,8 +32,8 @@ pub(crate) fn take_ready<C: Freight>(entries: &Entries<C>, pass: &mut Pass, row:
     ensures takes { TakesReady (sight pass.old) (sight pass.new) row (option_map C.goods result) }
 {
     match entries.take_row(pass, row, Change::Acq, RowState::Available) {
-        Exchanged::Done(cargo) => cargo,
-        Exchanged::Shown(_, cargo) => cargo,
+        Ok(cargo) => Some(cargo),
+        Err(_) => None,
     }
 }
 

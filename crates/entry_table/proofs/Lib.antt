@@ -11,6 +11,8 @@ pub mod Entering
 pub mod Places
 pub mod Joining
 pub mod Seeking
+pub mod Laying
+pub mod Ends
 pub mod Splitting
 pub mod Ending
 pub mod Changing
@@ -25,3 +27,4 @@ pub mod Giving
 pub mod Bringing
 pub mod Sighting
 pub mod Following
+pub mod Later

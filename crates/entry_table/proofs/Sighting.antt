@@ -90,7 +90,7 @@ pub takes_more : (callers cs : List ℕ) (c : ℕ) (s0 s1 ds : List Deed) → Me
 takes_more callers cs c s0 s1 ds mine more =
     let p : Deed → Bool = λ d. takes_any c d.act in
     let within : (all : List Deed) → taken_any c (concerning callers cs all) ≡ taken_any c all =
-      λ all. filter-within p (concerns callers cs) (λ d hit. concerns_take callers cs c d (mem_in c cs mine) hit) all
+    λ all. filter-within p (concerns callers cs) (λ d hit. concerns_take callers cs c d (mem_in c cs mine) hit) all
     in
     sym (within s1) ∙ ap (taken_any c) more ∙ taken-append c (concerning callers cs s0) ds ∙ ap (λ (l : List Deed). l ++ taken_any c ds) (within s0)
 
@@ -103,7 +103,7 @@ own_none h k (a ∷ acts) other =
 pub others_stay : (callers cs : List ℕ) (h k : ℕ) (s0 s1 : List Deed) (acts : List Act) → is_in k callers ≡ true → k ≢ h → concerning callers cs s1 ≡ concerning callers cs s0 ++ deeds_of h acts → own k s1 ≡ own k s0
 others_stay callers cs h k s0 s1 acts has other more =
     let within : (all : List Deed) → own k (concerning callers cs all) ≡ own k all =
-      λ all. filter-within (is_by k) (concerns callers cs) (λ d hit. concerns_own callers cs k d has hit) all
+    λ all. filter-within (is_by k) (concerns callers cs) (λ d hit. concerns_own callers cs k d has hit) all
     in
     sym (within s1) ∙ ap (own k) more ∙ own-append k (concerning callers cs s0) (deeds_of h acts)
     ∙ ap (λ (l : List Deed). own k (concerning callers cs s0) ++ l) (own_none h k acts other) ∙ append-nil (own k (concerning callers cs s0)) ∙ within s0

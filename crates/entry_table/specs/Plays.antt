@@ -1,5 +1,5 @@
 -- what each step tells
-use Rattle.std.specs.Prelude.{true, false, not, filter, ◌≡◌, ◌≢◌, ℕ, zero, suc, ◌+◌, ◌-◌, ◌<◌, ◌≤◌, ◌*◌, ◌^◌, Option, Some, None, List, [], ◌∷◌, ◌++◌, slice_index, length}
+use Rattle.std.specs.Prelude.{true, false, not, filter, ◌≡◌, ◌≢◌, ℕ, zero, suc, ◌+◌, ◌-◌, ◌<◌, ◌≤◌, ◌*◌, ◌^◌, Option, Some, None, Result, Ok, Err, List, [], ◌∷◌, ◌++◌, slice_index, length}
 use mathlib.Core.List.{IsPrefix}
 use Rattle.atomic_table.specs.Table.{Me, Step as Played, rest}
 use Rattle.queue_model.specs.declared.deeds.Act.{Act}
@@ -21,8 +21,6 @@ use Rattle.entry_table.specs.declared.draft.Drawn.{Drawn}
 use Rattle.entry_table.specs.declared.draft.Drawn.TheVariants.{Row as DrawnRow, Spent}
 use Rattle.entry_table.specs.declared.draft.Linking.{Linking}
 use Rattle.entry_table.specs.declared.draft.Linking.TheVariants.{Linked, Behind}
-use Rattle.entry_table.specs.declared.states.Exchanged.{Exchanged}
-use Rattle.entry_table.specs.declared.states.Exchanged.TheVariants.{Done, Shown as ShownState}
 use Rattle.queue_model.specs.declared.steps.Change.TheVariants as changes
 use Rattle.queue_model.specs.State.{IsIn}
 use Rattle.queue_model.specs.History.{after, Legal, own, deed, deeds_of}
@@ -115,6 +113,11 @@ reserved size m n m' = (m'.1 ≡ m.1) × Deepens m.0 m'.0 (steps.Reserve size) (
 
 abbrev pub gave_back : {S : Type 0} → ℕ → Me S View → ℕ → Me S View → Type 0
 gave_back size m n m' = (m'.1 ≡ m.1) × Deepens m.0 m'.0 (steps.GiveBack size) (acts.GiveBack size) (m.0.allowance + 1) n (n - (entry_worth + size))
+
+-- An entry of this size was reserved.
+pub record DidReserve (v w : View) (size : ℕ) : Type 0 where
+  pub went : Went v w (by_me v (acts.Reserve size) ∷ [])
+  pub view : w ≡ record v { allowance = v.allowance - 1; told = []; seen = w.seen; shown = w.shown }
 
 -- Draws of rows
 
@@ -263,6 +266,15 @@ pub record DidSplit (v w u : View) (cs : List ℕ) (n : ℕ) : Type 0 where
   pub went : Went v w []
   pub boss : w ≡ record v { made = v.made + 1; alone = false; consumers = not_in cs v.consumers; allowance = v.allowance - n; share = v.share - n; told = []; seen = w.seen }
   pub new : u ≡ record { shape = v.shape; opening = v.opening; callers = v.made ∷ []; made = 0; alone = false; consumers = cs; allowance = n; share = n; reached = v.reached; drawn = []; slot = None; told = []; seen = w.seen; shown = [] }
+
+-- The opening
+
+-- the view after the opening was laid down: the state that the pass had seen
+abbrev pub opened_view : View → View
+opened_view v = record v { opening = state_in v; told = []; seen = []; shown = [] }
+
+abbrev pub opened : {S : Type 0} → Me S View → ℕ → Me S View → Type 0
+opened m n m' = (m'.1 ≡ m.1) × (m'.0 ≡ opened_view m.0)
 
 -- Slots
 
@@ -465,8 +477,6 @@ pub record ShowsState (v w : View) (row : ℕ) (change : Change) (from s : RowSt
 
 module _ {C : Type 0} (load : C → Load) where
   -- The exchange hit, and then the row's slot was given back; or it showed another state.
-  abbrev pub Taking : ℕ → Change → RowState → View → View → Exchanged C → Type 0
-  Taking row change from v w (Done None) = ⊥
-  Taking row change from v w (Done (Some c)) = (u : View) × (x : Row) × Carries (load c) x × DidChange v u row change from (Some row) (act_with 0 change row) x × Slotted u w None
-  Taking row change from v w (ShownState s None) = ShowsState v w row change from s
-  Taking row change from v w (ShownState s (Some c)) = ⊥
+  abbrev pub Taking : ℕ → Change → RowState → View → View → Result C RowState → Type 0
+  Taking row change from v w (Ok c) = (u : View) × (x : Row) × Carries (load c) x × DidChange v u row change from (Some row) (act_with 0 change row) x × Slotted u w None
+  Taking row change from v w (Err s) = ShowsState v w row change from s

@@ -6,9 +6,9 @@ ghost use Rattle.entry_table.specs.Views.{rest_of, state_in, Mine};
 ghost use Rattle.entry_table.specs.Plays.{fetched, given, Slotted};
 
 use crate::entries::Entries;
-use acts_core::Freight;
 use crate::plays::{Fetches, Gives, Placing};
 use crate::view::View;
+use acts_core::Freight;
 use atomic_table::Seat;
 use std::marker::Brand;
 

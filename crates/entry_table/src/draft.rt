@@ -1,5 +1,5 @@
 //! A row that was drawn, with the cargo that is to be linked with it.
-ghost use Rattle.std.specs.Prelude.{◌<◌};
+ghost use Rattle.std.specs.Prelude.{◌≡◌, ◌<◌};
 
 /// A row that a pass drew and has not linked, with its cargo.
 #[derive(Drop)]
@@ -7,6 +7,15 @@ pub struct Draft<C> {
     pub(crate) row: u64,
     pub(crate) cargo: C,
     pub ghost low: { row < 524288 },
+}
+
+impl<C> Draft<C> {
+    /// The number of the row.
+    pub fn row(&self) -> u64
+        ensures { result ≡ self.now.row }
+    {
+        self.row
+    }
 }
 
 /// The answer to a draw of a row.

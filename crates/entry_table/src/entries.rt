@@ -2,8 +2,8 @@
 ghost use Rattle.link_core.specs.Layout.{words_of};
 ghost use Rattle.std.specs.Prelude.{◌≡◌, ◌+◌, ◌*◌, ◌≤◌, vec_len, vec_capacity};
 
-use acts_core::{Freight, RestEntry};
 use crate::view::{Ruling, Shape, View};
+use acts_core::{Freight, RestEntry};
 use atomic_table::Table;
 use std::alloc::Global;
 
@@ -22,4 +22,13 @@ pub struct Entries<C: Freight> {
     pub ghost rows: { shape.rows ≤ 524288 },
     pub ghost lists: { shape.lists ≤ 10 },
     pub ghost consumers: { shape.consumers ≤ 64 },
+}
+
+impl<C: Freight> Entries<C> {
+    /// How many lists the table has.
+    pub fn lists(&self) -> u32
+        ensures { result ≡ self.now.shape.lists }
+    {
+        self.shape.lists
+    }
 }

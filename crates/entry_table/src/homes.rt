@@ -15,10 +15,10 @@ ghost use Rattle.entry_table.specs.Homes.{bringing, BringsHome, Brought, deleted
 ghost use Rattle.entry_table.specs.Passes.{IsPassOf, Kept, Did, state, shown, seen, allowance, share, drawn, view};
 
 use crate::entries::Entries;
-use acts_core::Freight;
 use crate::pass::Pass;
 use crate::states::Altering;
 use crate::view::View;
+use acts_core::Freight;
 use atomic_table::{Badge, Play, Seat};
 use link_core::places::{state_place, state_word};
 use queue_model::{Change, RowState};

@@ -7,10 +7,10 @@ ghost use Rattle.entry_table.specs.Passes.{IsPassOf, Kept, view, allowance, shar
 
 use crate::draft::{Draft, Linking};
 use crate::entries::Entries;
-use acts_core::Freight;
 use crate::pass::Pass;
 use crate::plays::{Links, Placing};
 use crate::view::View;
+use acts_core::Freight;
 use atomic_table::{Badge, Seat};
 use link_core::places::link_place;
 use queue_model::Node;

@@ -6,10 +6,10 @@ ghost use Rattle.entry_table.specs.Plays.{Shows, looked};
 ghost use Rattle.entry_table.specs.Passes.{IsPassOf, Kept, Did, HasWord, state, shown, seen, allowance, share, drawn};
 
 use crate::entries::Entries;
-use acts_core::Freight;
 use crate::pass::Pass;
 use crate::plays::{Looks, Trying};
 use crate::view::View;
+use acts_core::Freight;
 use atomic_table::{Badge, Seat};
 use link_core::places::word_place;
 use queue_model::WordName;

@@ -26,3 +26,12 @@ pub struct Pass {
     pub ghost tops: { top ≤ (view_in badge.views).reached },
     pub ghost reached: { (view_in badge.views).reached ≤ (view_in badge.views).shape.rows },
 }
+
+impl Pass {
+    /// The number of the caller that the pass is of.
+    pub fn caller(&self) -> u64
+        ensures { result ≡ self.now.caller }
+    {
+        self.caller
+    }
+}

@@ -1,8 +1,8 @@
 //! What each step tells.
 ghost use Rattle.std.specs.Prelude.{ℕ};
 
-use acts_core::Freight;
 use crate::view::View;
+use acts_core::Freight;
 use atomic_table::{Join, Play, Split};
 use std::marker::{Brand, PhantomData};
 
@@ -175,6 +175,15 @@ impl<C> Play<Option<C>, View> for Settles {
     ghost use Rattle.entry_table.specs.Plays.{settled};
 
     ghost then = { λ st. settled };
+}
+
+/// A load by which the pass that is alone makes what it has seen its opening.
+pub struct Opens;
+
+impl<C> Play<Option<C>, View> for Opens {
+    ghost use Rattle.entry_table.specs.Plays.{opened};
+
+    ghost then = { λ st. opened };
 }
 
 /// A note of what a pass has seen, cut from its view.

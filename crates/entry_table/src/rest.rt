@@ -15,8 +15,8 @@ ghost use Rattle.entry_table.specs.Views.{Has};
 ghost use Rattle.entry_table.specs.Passes.{IsPassOf, view, callers, state, seen};
 
 use crate::entries::Entries;
-use acts_core::{Freight, RestEntry};
 use crate::pass::Pass;
+use acts_core::{Freight, RestEntry};
 use atomic_table::Closed;
 use link_core::places::{IDENT_AT, MASK_AT, SIZE_AT, STATE_AT, list_place, row_place, state_of};
 use queue_model::{RowState, Slip};

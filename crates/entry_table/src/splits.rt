@@ -5,10 +5,10 @@ ghost use Rattle.entry_table.specs.Plays.{numbered, cut_left, cut_right, noted_l
 ghost use Rattle.entry_table.specs.Passes.{IsPassOf, view, opening};
 
 use crate::entries::Entries;
-use acts_core::Freight;
 use crate::pass::Pass;
 use crate::plays::{Cut, Merge, Notes, Numbers, Portion, Settles};
 use crate::view::View;
+use acts_core::Freight;
 use atomic_table::{Badge, Seat};
 use std::marker::Brand;
 use std::mem;

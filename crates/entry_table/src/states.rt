@@ -9,12 +9,12 @@ ghost use Rattle.entry_table.specs.Plays.{took, ended, TakesOut, IsEnding, Takin
 ghost use Rattle.queue_model.specs.declared.deeds.Act.TheVariants as acts;
 ghost use Rattle.queue_model.specs.declared.steps.Change.TheVariants as changes;
 ghost use Rattle.queue_model.specs.declared.rows.RowState.TheVariants.{Locked};
-ghost use Rattle.entry_table.specs.Passes.{IsPassOf, Kept, Did, view, state, allowance, share};
+ghost use Rattle.entry_table.specs.Passes.{IsPassOf, Kept, view, state, allowance, share, drawn};
 
 use crate::entries::Entries;
-use acts_core::Freight;
 use crate::pass::Pass;
 use crate::view::View;
+use acts_core::Freight;
 use atomic_table::{Badge, Play, Seat};
 use link_core::places::{state_of, state_place, state_word};
 use queue_model::{Change, RowState};
@@ -63,15 +63,6 @@ impl<C, J: Altering> Play<Option<C>, View> for Ending<J> {
     ghost then = { λ st. ended J.target J.change J.before };
 }
 
-/// The answer to a change of a row's state.
-#[derive(Drop)]
-pub enum Exchanged<C> {
-    /// The state changed.
-    Done(Option<C>),
-    /// It was another one. Nothing changed.
-    Shown(RowState, Option<C>),
-}
-
 impl<C: Freight> Entries<C> {
     // The exchange alone: Acq, Lock or Steal.
     fn take_word<J: Altering>(
@@ -108,7 +99,7 @@ impl<C: Freight> Entries<C> {
         change: Change,
         from: RowState,
         caller: u64,
-    ) -> Exchanged<C>
+    ) -> Result<C, RowState>
         requires table { (seat.old.table_id ≡ self.now.table.shared.table_id) }
         requires caller { (seat.old.me.0.callers ≡ caller ∷ rest_of seat.old.me.0.callers) × (caller < 4294967296) }
         requires idle { (seat.old.me.1 ≡ []) × (seat.old.me.0.slot ≡ None) }
@@ -120,9 +111,9 @@ impl<C: Freight> Entries<C> {
     {
         let found = self.take_word::<Brand>(seat, row, change, from, caller);
         if found == state_word(from) {
-            Exchanged::Done(Some(self.take_out(seat, row, caller)))
+            Ok(self.take_out(seat, row, caller))
         } else {
-            Exchanged::Shown(state_of(found), None)
+            Err(state_of(found))
         }
     }
 
@@ -133,12 +124,12 @@ impl<C: Freight> Entries<C> {
         row: u64,
         change: Change,
         from: RowState,
-    ) -> Exchanged<C>
+    ) -> Result<C, RowState>
         requires table { IsPassOf self.now pass.old }
         requires known { (x : Row) × (row_at (state pass.old) row ≡ Some x) }
         requires fits { TakesOut change × GoesFrom pass.old.caller change from × IsPackable from }
         ensures kept { Kept pass.old pass.new }
-        ensures rights { (allowance pass.new ≡ allowance pass.old) × (share pass.new ≡ share pass.old) }
+        ensures rights { (allowance pass.new ≡ allowance pass.old) × (share pass.new ≡ share pass.old) × (drawn pass.new ≡ drawn pass.old) }
         ensures answer { Taking C.goods row change from (view pass.old) (view pass.new) result }
     {
         let mut seat = mem::replace(&mut pass.badge, Badge::blank()).into_seat::<Option<C>>();
@@ -198,8 +189,8 @@ impl<C: Freight> Entries<C> {
         requires table { IsPassOf self.now pass.old }
         requires held { IsIn (state pass.old) row (Locked pass.old.caller) }
         ensures kept { Kept pass.old pass.new }
-        ensures rights { (allowance pass.new ≡ allowance pass.old) × (share pass.new ≡ share pass.old) }
-        ensures did { Did pass.old pass.new (acts.Deq row ∷ []) }
+        ensures rights { (allowance pass.new ≡ allowance pass.old) × (share pass.new ≡ share pass.old) × (drawn pass.new ≡ drawn pass.old) }
+        ensures changed { (x : Row) × DidChange (view pass.old) (view pass.new) row changes.Deq (Locked pass.old.caller) None (acts.Deq row) x }
     {
         let mut seat = mem::replace(&mut pass.badge, Badge::blank()).into_seat::<Option<C>>();
         self.dequeue_at(&mut seat, row, pass.caller);

@@ -7,9 +7,9 @@ ghost use Rattle.entry_table.specs.Helps.{HelpableTo, helped, tail_after};
 ghost use Rattle.entry_table.specs.Passes.{IsPassOf, Kept, Did, state, shown, seen, allowance, share, drawn};
 
 use crate::entries::Entries;
-use acts_core::Freight;
 use crate::pass::Pass;
 use crate::view::View;
+use acts_core::Freight;
 use atomic_table::{Badge, Play, Seat};
 use link_core::places::{node_word, tail_place};
 use queue_model::Node;

@@ -1,9 +1,9 @@
 -- lists of targets that are put into places, and taken out of them
-use Rattle.std.proofs.Common.{◌≡◌, ℕ, zero, suc, ◌+◌, ◌-◌, ◌<◌, ◌≤◌, List, [], ◌∷◌, ◌++◌, length, map, take, drop, slice_set, get_or, Option, Some, None, refl, sym, ◌∙◌, ap, subst, arith, append_assoc, append-nil, add-one, drop-cons}
+use Rattle.std.proofs.Common.{◌≡◌, ℕ, zero, suc, ◌+◌, ◌<◌, ◌≤◌, List, [], ◌∷◌, ◌++◌, length, map, drop, slice_set, get_or, Option, Some, None, refl, sym, ◌∙◌, ap, arith, append_assoc, append-nil, add-one, drop-cons}
 use Rattle.std.specs.List.{flat_map}
 use Rattle.std.specs.Option.{option_map, option_to_list}
-use Rattle.std.proofs.lemmas.List.{length-append, map-append, drop_all}
-use Rattle.target_core.specs.Seats.{Seat, one_of, standing, all_of}
+use Rattle.std.proofs.lemmas.List.{map-append, drop_all}
+use Rattle.target_core.specs.Seats.{Seat, standing, all_of}
 
 -- what stands behind a written place, and in it
 drop-set : {A : Type 0} (xs : List A) (k : ℕ) (y : A) → k < length xs → drop k (slice_set xs k y) ≡ y ∷ drop (suc k) xs

@@ -2,7 +2,9 @@ use Rattle.std.proofs.Common.{◌≡◌, ◌≤◌, sym, ◌∙◌, arith}
 use Rattle.acts_core.specs.Walks.{FreeTo}
 use Rattle.entry_table.specs.Passes.{opening}
 use Rattle.entry_table.specs.Sights.{sight}
-use Rattle.cursor_core.proofs.Calling.{kept_same, kept_trans, pass_of, opening_lists, none_done, less_left, next_answers, next_ends}
+use Rattle.acts_core.proofs.Coming.{none_done, less_left}
+use Rattle.entry_table.proofs.Later.{kept_same, kept_trans, pass_of, opening_lists}
+use Rattle.cursor_core.proofs.Calling.{next_answers, next_ends}
 use Rattle.cursor_core.proofs.cursors.next.Goals as goal
 
 pub lists-init : goal.lists-init

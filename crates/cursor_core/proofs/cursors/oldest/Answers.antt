@@ -3,7 +3,8 @@ use Rattle.acts_core.specs.Walks.{Ready}
 use Rattle.acts_core.proofs.Walking.{done_none}
 use Rattle.entry_table.specs.Passes.{opening}
 use Rattle.entry_table.specs.Sights.{sight}
-use Rattle.cursor_core.proofs.Calling.{kept_same, kept_trans, pass_of, opening_lists, more_done, oldest_answers, oldest_ends}
+use Rattle.entry_table.proofs.Later.{kept_same, kept_trans, pass_of, opening_lists}
+use Rattle.cursor_core.proofs.Calling.{more_done, oldest_answers, oldest_ends}
 use Rattle.cursor_core.proofs.cursors.oldest.Goals as goal
 
 pub loop-list-init : goal.loop-list-init

@@ -1,7 +1,8 @@
 use Rattle.std.proofs.Common.{◌≡◌, ◌≢◌, rules}
 use Rattle.std.specs.Int.{bit_at}
 use Rattle.std.specs.Option.{option_map}
-use Rattle.cursor_core.proofs.Acquiring.{known_later, unwanted, tries_free}
+use Rattle.entry_table.proofs.Later.{known_later}
+use Rattle.cursor_core.proofs.Acquiring.{unwanted, tries_free}
 use Rattle.cursor_core.proofs.takes.take_free.Goals as goal
 
 pub take_ready-requires-clause-known : goal.take_ready-requires-clause-known

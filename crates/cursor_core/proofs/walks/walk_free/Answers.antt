@@ -1,11 +1,12 @@
 use Rattle.std.proofs.Common.{◌≡◌, ◌<◌, ◌+◌, ℕ, suc, subst, arith}
 use Rattle.queue_model.specs.State.{place_at}
 use Rattle.acts_core.specs.Walks.{FreeTo, IsStop}
+use Rattle.acts_core.proofs.Coming.{stop_there, goes_on, smaller}
 use Rattle.acts_core.proofs.Walking.{walk_first}
 use Rattle.entry_table.specs.Passes.{state}
 use Rattle.entry_table.specs.Sights.{sight}
-use Rattle.cursor_core.proofs.Calling.{kept_trans, pass_of, some_of}
-use Rattle.cursor_core.proofs.Coming.{got_free, stop_there, goes_on, smaller}
+use Rattle.entry_table.proofs.Later.{kept_trans, pass_of, some_of}
+use Rattle.cursor_core.proofs.Getting.{got_free}
 use Rattle.cursor_core.proofs.walks.walk_free.Goals as goal
 
 pub rows-init : goal.rows-init

@@ -4,7 +4,7 @@ use Rattle.queue_model.specs.State.{place_at}
 use Rattle.acts_core.specs.Walks.{Ready, Faces}
 use Rattle.entry_table.specs.Passes.{IsPassOf, Kept, state}
 use Rattle.entry_table.specs.Sights.{sight}
-use Rattle.cursor_core.proofs.Coming.{left}
+use Rattle.acts_core.proofs.Coming.{left}
 use Rattle.cursor_core.proofs.walks.walk_ready.Given as goal
 
 -- the row to try next; none where the end was shown
