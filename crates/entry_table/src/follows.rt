@@ -18,13 +18,6 @@ fn node_of(list: u32, stop: u64) -> Node
 }
 
 impl<C: Freight> Entries<C> {
-    /// How many lists the table has.
-    pub fn lists(&self) -> u32
-        ensures { result ≡ self.now.shape.lists }
-    {
-        self.shape.lists
-    }
-
     /// The row that the link behind a stop of a list names, as the only step; none where it is empty. A stop
     /// is 0 for the head of the list, and a number more than a row's for that row. No row is skipped but
     /// deleted ones.
