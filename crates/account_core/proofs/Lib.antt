@@ -1,0 +1,5 @@
+pub mod Once
+pub mod Last
+pub mod Telling
+pub mod Counting
+pub mod Row25
