@@ -3,3 +3,4 @@ pub mod Last
 pub mod Telling
 pub mod Counting
 pub mod Row25
+pub mod Following

@@ -30,7 +30,10 @@ use Rattle.account_core.specs.Accounts.{Account}
 use Rattle.account_core.specs.Carry.{entries_of, handed_on}
 use Rattle.account_core.specs.Played.{Played, rest_of}
 use Rattle.account_core.specs.Stories.{Story, told}
-use Rattle.account_core.specs.Texts.{LogsTell, RestsTell, account_text, actor_names, queue_names}
+use Rattle.account_core.specs.Phases.{ArePhases, IsPhase, rows_after}
+use Rattle.account_core.specs.Texts.{LogsTell, RestsTell, account_text, actor_names, queue_names, run_text}
+use Rattle.script_read.specs.Phases.{Actors}
+use Rattle.target_core.specs.Seats.{Seats}
 
 -- Holders
 
@@ -82,3 +85,18 @@ AccountTold =
     (defs : List Defined) (a : Account) (logs : List Log) (rests : List Rest)
     → LogsTell logs a.stories → RestsTell rests defs a.queues
     → phase_text (queue_names defs) (actor_names a.stories) logs rests ≡ account_text defs a
+
+-- Runs
+
+-- a run goes on by a phase that opens with what the one before it handed on
+abbrev pub PhasesAppend : Type 0
+PhasesAppend =
+    (defs : List Defined) (rows : List (List Row)) (seats mid seats' : Seats) (phases : List Actors) (accounts : List Account) (actors : Actors) (a : Account)
+    → ArePhases defs rows seats phases accounts mid → IsPhase defs (rows_after rows accounts) actors a mid seats'
+    → ArePhases defs rows seats (phases ++ actors ∷ []) (accounts ++ a ∷ []) seats'
+
+-- and its text by the text of that phase
+abbrev pub TextAppend : Type 0
+TextAppend =
+    (defs : List Defined) (accounts : List Account) (a : Account)
+    → run_text defs (accounts ++ a ∷ []) ≡ run_text defs accounts ++ account_text defs a

@@ -34,3 +34,8 @@ ArePhases defs rows seats phases accounts seats' = ⊥
 -- no rows for each queue: how a run begins
 abbrev pub nothing : List Defined → List (List Row)
 nothing defs = map (λ d. []) defs
+
+-- the rows with which the next phase opens, where a run began with these and had these accounts
+abbrev pub rows_after : List (List Row) → List Account → List (List Row)
+rows_after rows [] = rows
+rows_after rows (a ∷ accounts) = rows_after (map handed_on a.queues) accounts

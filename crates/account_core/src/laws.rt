@@ -1,5 +1,5 @@
 //! Laws on accounts. No program needs to call them: each has its laws as its contract.
-ghost use Rattle.account_core.specs.Laws.{AccountTold, CarryFrees, CarryKeeps, DequeuedOnce, GotCounts, LogTold, OneState};
+ghost use Rattle.account_core.specs.Laws.{AccountTold, CarryFrees, CarryKeeps, DequeuedOnce, GotCounts, LogTold, OneState, PhasesAppend, TextAppend};
 ghost use Rattle.account_core.specs.Last.{LastTouch};
 ghost use Rattle.account_core.specs.Row25.{Row25Runs, Row25Text};
 
@@ -21,6 +21,12 @@ pub fn deliveries()
 pub fn texts()
     ensures log { LogTold }
     ensures account { AccountTold }
+{}
+
+/// Phases, one after the other.
+pub fn runs()
+    ensures phases { PhasesAppend }
+    ensures text { TextAppend }
 {}
 
 /// An account of two phases with a rest between them: its text, and that it is one.
