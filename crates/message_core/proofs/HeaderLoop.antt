@@ -2,8 +2,8 @@
 use Rattle.std.proofs.Common.{◌≡◌, ℕ, suc, ◌-◌, ◌+◌, ◌≤◌, ◌<◌, List, [], ◌∷◌, ◌++◌, Result, Ok, Err, refl, sym, ap, ◌∙◌, append_assoc, arith}
 use Rattle.std.proofs.lemmas.List.{append-nil, map_push}
 use Rattle.message_core.specs.declared.headers.Header.{Header}
-use Rattle.message_core.specs.declared.reading.ReadFault.{ReadFault}
-use Rattle.message_core.specs.declared.reading.ReadFault.TheVariants as read
+use Rattle.message_core.specs.declared.numbers.ReadFault.{ReadFault}
+use Rattle.message_core.specs.declared.numbers.ReadFault.TheVariants as read
 use Rattle.message_core.specs.Spelling.{names}
 use Rattle.message_core.specs.Reading.{◌>>=◌, Leaves, header_at, headers_at}
 

@@ -1,10 +1,10 @@
 -- The two laws: what is read is spelled so, and what is spelled so is read.
 use Rattle.std.proofs.Common.{◌≡◌, ℕ, zero, suc, ◌+◌, ◌-◌, ◌^◌, ◌<◌, ◌≤◌, Bool, true, false, cond, ltb, eqb, List, [], ◌∷◌, ◌++◌, length, Result, Ok, Err, refl, sym, ap, subst, ◌∙◌, append_assoc, length-append, arith}
-use Rattle.std.specs.Prelude.{ℤ, ◌||◌, FitsSigned}
+use Rattle.std.specs.Prelude.{ℤ, ◌||◌, ◌&&◌, nat_le, FitsSigned}
 use Rattle.std.specs.Int.{w16, w32, w64, to_be_bytes, cast_signed, cast_unsigned}
 use Rattle.std.specs.List.{flat_map, AllByRecursion, IsDistinct}
 use Rattle.std.specs.Str.{bytes_eq}
-use Rattle.std.proofs.lemmas.Bool.{eqb-true, ltb-false, le-ltb}
+use Rattle.std.proofs.lemmas.Bool.{eqb-true, leb-true, le-leb}
 use Rattle.std.proofs.lemmas.Int.{of_z-to_z, to_z-of_z}
 use Rattle.std.proofs.Math.Facts.{sfits_to_z, Fits-of_lt, Fits-of_z, Fits-lt-pow}
 use Rattle.std.proofs.lemmas.List.{append-nil, nil_from_length}
@@ -16,7 +16,7 @@ use Rattle.message_core.specs.declared.headers.HeaderValue.{HeaderValue}
 use Rattle.message_core.specs.declared.headers.HeaderValue.TheVariants as value
 use Rattle.message_core.specs.Spelling.{Content, content, cut, flag_byte, value_bytes, header_bytes, headers_bytes, names, IsText, IsNumber, IsHeader, IsMessage}
 use Rattle.message_core.specs.Names.{is_among}
-use Rattle.message_core.specs.Reading.{◌>>=◌, number_at, bytes_at, flag_at, priority_at, name_at, text_at, value_at, header_at, headers_at, content_at, ended, message_of}
+use Rattle.message_core.specs.Reading.{◌>>=◌, number_at, bytes_at, flag_at, priority_at, name_at, text_at, value_at, header_at, headers_at, content_at, place_of, ended, message_of}
 use Rattle.message_core.proofs.NameSets.{bytes_equiv, distinct_none}
 use Rattle.message_core.proofs.Fields.{IsBytes, IsBytes-rest, bind_ok, guard_ok, ok_is, Takes, Takes-then, wide16, wide32, wide64, number_takes, number_again, flag_takes, flag_again, priority_takes, priority_again, bytes_takes, bytes_again, name_takes, name_again, text_takes, text_again}
 
@@ -184,32 +184,33 @@ content_again m rest is =
 
 -- ---- all of the bytes
 
-guard_ended : (b : Bool) (d : ℕ) (x y : Content) → cond b (Ok x) (Err d) ≡ Ok y → (b ≡ true) × (x ≡ y)
-guard_ended true d x y e = (refl, cc)
-guard_ended false d x y e = absurd cc
+guard_ended : (a b : Bool) (d : ℕ) (x y : Content) → cond (a && b) (Ok x) (Err d) ≡ Ok y → (a ≡ true) × (b ≡ true) × (x ≡ y)
+guard_ended true true d x y e = (refl, refl, cc)
+guard_ended true false d x y e = absurd cc
+guard_ended false b d x y e = absurd cc
 
-ended_ok : (size : ℕ) (r : Result (Content × List ℕ) ℕ) (m : Content) → ended size r ≡ Ok m → r ≡ Ok (m, [])
+-- what all of the bytes are: nothing is left, and there are no more than a message may have
+ended_ok : (size : ℕ) (r : Result (Content × List ℕ) ℕ) (m : Content) → ended size r ≡ Ok m → (r ≡ Ok (m, [])) × (size ≤ 1048576)
 ended_ok size (Ok x) m e =
-    let g = guard_ended (eqb (length x.1) 0) (size - length x.1) x.0 m e in
+    let g = guard_ended (eqb (length x.1) 0) (nat_le size 1048576) (place_of size (length x.1)) x.0 m e in
     let nothing : x.1 ≡ [] = nil_from_length x.1 (eqb-true _ _ g.0) in
-    ap (λ (rest : List ℕ). Ok (x.0, rest)) nothing ∙ ap (λ (k : Content). Ok (k, [])) g.1
+    (ap (λ (rest : List ℕ). Ok (x.0, rest)) nothing ∙ ap (λ (k : Content). Ok (k, [])) g.2, leb-true _ _ g.1)
 ended_ok size (Err left) m e = absurd cc
 
 pub message_takes : (bytes : List ℕ) (m : Content) → IsBytes bytes → message_of bytes ≡ Ok m → IsMessage m × (bytes ≡ content m)
 unfolding message_of
 message_takes bytes m fits e =
-    let g = guard_ok (ltb 1048576 (length bytes)) 1048576 (ended (length bytes) (content_at bytes)) m e in
-    let small : length bytes ≤ 1048576 = ltb-false _ _ g.0 in
-    let w = content_takes bytes (m, []) fits (ended_ok (length bytes) (content_at bytes) m g.1) in
+    let g = ended_ok (length bytes) (content_at bytes) m e in
+    let w = content_takes bytes (m, []) fits g.0 in
     let same : bytes ≡ content m = w.takes.parts ∙ append-nil (content m) in
-    (record { id = w.id; priority = w.priority; few = omega (arith, w.few); headers = All-from_recursion IsHeader m.headers w.headers; distinct = w.distinct; short = omega (arith, small, ap length same) }, same)
+    (record { id = w.id; priority = w.priority; few = omega (arith, w.few); headers = All-from_recursion IsHeader m.headers w.headers; distinct = w.distinct; short = omega (arith, g.1, ap length same) }, same)
 
 pub message_again : (m : Content) → IsMessage m → message_of (content m) ≡ Ok m
 unfolding message_of
 message_again m is =
-    let small : ltb 1048576 (length (content m)) ≡ false = le-ltb _ _ is.short in
+    let small : nat_le (length (content m)) 1048576 ≡ true = le-leb _ _ is.short in
     let read : content_at (content m) ≡ Ok (m, []) = ap content_at (sym (append-nil (content m))) ∙ content_again m [] is in
-    rw (small, read) refl
+    rw (read, small) refl
 
 -- what two messages begin with is the same message
 pub content_first : (m n : Content) (xs ys : List ℕ) → IsMessage m → IsMessage n → content m ++ xs ≡ content n ++ ys → (m ≡ n) × (xs ≡ ys)

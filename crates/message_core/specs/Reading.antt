@@ -1,5 +1,5 @@
 -- Reading from left to right, with the first fault that is met (docs/FORMATS.md).
-use Rattle.std.specs.Prelude.{◌≡◌, ℕ, zero, suc, ◌-◌, Bool, true, false, List, [], ◌∷◌, ◌++◌, length, take, drop, Result, Ok, Err, nat_lt, nat_le, ◌==◌, if◌then◌else◌}
+use Rattle.std.specs.Prelude.{◌≡◌, ℕ, zero, suc, ◌-◌, Bool, true, false, List, [], ◌∷◌, ◌++◌, length, take, drop, Result, Ok, Err, nat_lt, nat_le, ◌==◌, ◌&&◌, min, if◌then◌else◌}
 use Rattle.std.specs.Int.{Width, w16, w32, w64, byte_len, from_be_bytes, cast_signed}
 use Rattle.std.specs.Str.{is_utf8}
 use Rattle.message_core.specs.declared.faults.DecodeFault.{DecodeFault}
@@ -7,8 +7,8 @@ use Rattle.message_core.specs.declared.faults.DecodeFault.TheVariants.{NotMessag
 use Rattle.message_core.specs.declared.headers.Header.{Header}
 use Rattle.message_core.specs.declared.headers.HeaderValue.{HeaderValue}
 use Rattle.message_core.specs.declared.headers.HeaderValue.TheVariants as value
-use Rattle.message_core.specs.declared.reading.ReadFault.{ReadFault}
-use Rattle.message_core.specs.declared.reading.ReadFault.TheVariants as read
+use Rattle.message_core.specs.declared.numbers.ReadFault.{ReadFault}
+use Rattle.message_core.specs.declared.numbers.ReadFault.TheVariants as read
 use Rattle.message_core.specs.Spelling.{Content}
 use Rattle.message_core.specs.Names.{is_among}
 
@@ -110,14 +110,18 @@ content_at bytes = do
   body ← bytes_at len.0 len.1
   Ok (record { id = id.0; persistent = persistent.0; priority = priority.0; headers = headers.0; body = body.0 }, body.1)
 
--- the message, or the place of the first fault, in bytes from the first
-abbrev pub ended : ℕ → Read Content → Result Content ℕ
-ended size (Ok x) = if length x.1 == 0 then Ok x.0 else Err (size - length x.1)
-ended size (Err left) = Err (size - left)
+-- the place of a fault where so many of the bytes are left: bytes above the limit are at fault where too many begin
+abbrev pub place_of : ℕ → ℕ → ℕ
+place_of size left = min (size - left) 1048576
 
--- All of the bytes. More bytes than a message may have are at fault where too many begin, whatever they are.
+-- the message where nothing is left and there are no more bytes than a message may have, or the place of the first fault
+abbrev pub ended : ℕ → Read Content → Result Content ℕ
+ended size (Ok x) = if length x.1 == 0 && nat_le size 1048576 then Ok x.0 else Err (place_of size (length x.1))
+ended size (Err left) = Err (place_of size left)
+
+-- all of the bytes
 unfoldable pub message_of : List ℕ → Result Content ℕ
-message_of bytes = if nat_lt 1048576 (length bytes) then Err 1048576 else ended (length bytes) (content_at bytes)
+message_of bytes = ended (length bytes) (content_at bytes)
 
 -- ---- What a function returned, seen by view, is what reading gives, unless memory ran out.
 

@@ -7,6 +7,7 @@ pub mod laws;
 pub mod limits;
 pub mod messages;
 mod names;
+pub mod numbers;
 mod reading;
 mod sizes;
 mod writing;

@@ -82,8 +82,9 @@ impl Message {
 
     /// The message whose encoding the bytes are, all of them. NotMessage exactly where they are no message's; `at`
     /// is the first byte of the first field that is cut short, has no allowed value, is a second equal name or
-    /// isn't UTF-8. A name begins behind its length, and a text at its length. A byte after the body, and bytes
-    /// above 1,048,576, are at fault where too many begin. NoMemory may come in place of any.
+    /// isn't UTF-8. A name begins behind its length, and a text at its length. A byte after the body, and a byte
+    /// above the limit of 1,048,576, is at fault where too many begin, unless an earlier place is at fault. NoMemory
+    /// may come in place of any.
     pub fn decode(alloc: Global, bytes: &[u8]) -> Result<Message, DecodeFault>
         // What is read is a message, and the bytes are its encoding.
         ensures found { IfOk result (λ m. IsMessage m × (bytes.now ≡ content m)) }

@@ -3,7 +3,7 @@ ghost use Rattle.std.specs.Prelude.{◌≡◌, ◌-◌, ◌++◌, ◌∷◌, [],
 ghost use Rattle.std.specs.Int.{w16, w32, w64};
 ghost use Rattle.std.specs.Str.{is_utf8};
 ghost use Rattle.message_core.specs.Names.{Holds};
-ghost use Rattle.message_core.specs.Reading.{Gives, number_at, byte_at, bytes_at, flag_at, priority_at, utf8_at, name_at, text_at, value_at, header_at, headers_at, content_at, message_of, Refuses};
+ghost use Rattle.message_core.specs.Reading.{Gives, number_at, byte_at, bytes_at, flag_at, priority_at, utf8_at, name_at, text_at, value_at, header_at, headers_at, content_at, message_of, place_of, Refuses};
 ghost use Rattle.message_core.specs.Spelling.{Content};
 ghost use Rattle.message_core.specs.Fields.{view};
 
@@ -11,40 +11,11 @@ use crate::faults::DecodeFault;
 use crate::headers::{Header, HeaderValue};
 use crate::limits::TOP_PRIORITY;
 use crate::names::add_name;
-use byte_lists::{Bytes, MOST_BYTES, NoMemory};
-use std::alloc::{AllocFailed, Global};
+use crate::numbers::{ReadFault, byte_of, bytes_of, u16_of, u32_of, u64_of};
+use byte_lists::{Bytes, MOST_BYTES};
+use std::alloc::Global;
 use std::collections::BTreeSet;
 use std::str::from_utf8;
-
-/// Why bytes were not read.
-#[derive(Debug, Drop)]
-pub(crate) enum ReadFault {
-    NoMemory,
-    /// So many bytes are left from the first byte of the first field that is at fault.
-    Left(usize),
-}
-
-impl From<NoMemory> for ReadFault {
-    ghost use Rattle.std.specs.Prelude.{◌≡◌};
-    ghost use Rattle.message_core.specs.declared.reading.ReadFault.TheVariants as read;
-
-    ghost from_gives = { λ _ e. e ≡ read.NoMemory };
-
-    fn from(_fault: NoMemory) -> ReadFault {
-        ReadFault::NoMemory
-    }
-}
-
-impl<T: Drop> From<AllocFailed<T>> for ReadFault {
-    ghost use Rattle.std.specs.Prelude.{◌≡◌};
-    ghost use Rattle.message_core.specs.declared.reading.ReadFault.TheVariants as read;
-
-    ghost from_gives = { λ _ e. e ≡ read.NoMemory };
-
-    fn from(_fault: AllocFailed<T>) -> ReadFault {
-        ReadFault::NoMemory
-    }
-}
 
 /// The fields of a message.
 #[derive(Debug, Drop)]
@@ -54,63 +25,6 @@ pub(crate) struct Fields {
     pub(crate) priority: u8,
     pub(crate) headers: Vec<Header>,
     pub(crate) body: Bytes,
-}
-
-/// The number in the first two bytes, and the bytes after it.
-fn u16_of(bytes: &[u8]) -> Result<(u16, &[u8]), ReadFault>
-    ensures { Gives (λ x. (x.0, x.1.now)) result (number_at w16 bytes.now) }
-{
-    if bytes.len() < 2 {
-        return Err(ReadFault::Left(bytes.len()));
-    }
-    let (front, rest) = bytes.split_at(2);
-    Ok((u16::from_be_bytes([front[0], front[1]]), rest))
-}
-
-/// The number in the first four bytes, and the bytes after it.
-fn u32_of(bytes: &[u8]) -> Result<(u32, &[u8]), ReadFault>
-    ensures { Gives (λ x. (x.0, x.1.now)) result (number_at w32 bytes.now) }
-{
-    if bytes.len() < 4 {
-        return Err(ReadFault::Left(bytes.len()));
-    }
-    let (front, rest) = bytes.split_at(4);
-    let number = u32::from_be_bytes([front[0], front[1], front[2], front[3]]);
-    Ok((number, rest))
-}
-
-/// The number in the first eight bytes, and the bytes after it.
-fn u64_of(bytes: &[u8]) -> Result<(u64, &[u8]), ReadFault>
-    ensures { Gives (λ x. (x.0, x.1.now)) result (number_at w64 bytes.now) }
-{
-    if bytes.len() < 8 {
-        return Err(ReadFault::Left(bytes.len()));
-    }
-    let (front, rest) = bytes.split_at(8);
-    let number = u64::from_be_bytes([
-        front[0], front[1], front[2], front[3], front[4], front[5], front[6], front[7],
-    ]);
-    Ok((number, rest))
-}
-
-/// The first byte, and the bytes after it.
-fn byte_of(bytes: &[u8]) -> Result<(u8, &[u8]), ReadFault>
-    ensures { Gives (λ x. (x.0, x.1.now)) result (byte_at bytes.now) }
-{
-    match bytes {
-        [] => Err(ReadFault::Left(0)),
-        [first, rest @ ..] => Ok((*first, rest)),
-    }
-}
-
-/// The first so many bytes, and the bytes after them.
-fn bytes_of(count: usize, bytes: &[u8]) -> Result<(&[u8], &[u8]), ReadFault>
-    ensures { Gives (λ x. (x.0.now, x.1.now)) result (bytes_at count bytes.now) }
-{
-    if bytes.len() < count {
-        return Err(ReadFault::Left(bytes.len()));
-    }
-    Ok(bytes.split_at(count))
 }
 
 /// A flag, and the bytes after it.
@@ -265,12 +179,13 @@ pub(crate) fn fields_of(alloc: Global, bytes: &[u8]) -> Result<(Fields, &[u8]), 
     Ok((fields, rest))
 }
 
-/// The fault where so many of the bytes are left.
+/// The fault where so many of the bytes are left, or where too many begin if that comes first.
 fn place(size: usize, left: usize) -> DecodeFault
-    ensures { (r : Result Content ℕ) → r ≡ Err (size - left) → Refuses result r }
+    ensures { (r : Result Content ℕ) → r ≡ Err (place_of size left) → Refuses result r }
 {
+    let at = size.saturating_sub(left) as u64;
     DecodeFault::NotMessage {
-        at: size.saturating_sub(left) as u64,
+        at: at.min(MOST_BYTES),
     }
 }
 
@@ -279,13 +194,11 @@ fn place(size: usize, left: usize) -> DecodeFault
 pub(crate) fn all_fields_of(alloc: Global, bytes: &[u8]) -> Result<Fields, DecodeFault>
     ensures { MatchResult result (λ fields. message_of bytes.now ≡ Ok (view fields)) (λ e. Refuses e (message_of bytes.now)) }
 {
-    if bytes.len() as u64 > MOST_BYTES {
-        return Err(DecodeFault::NotMessage { at: MOST_BYTES });
-    }
+    let size = bytes.len();
     match fields_of(alloc, bytes) {
-        Ok((fields, [])) => Ok(fields),
-        Ok((_, rest)) => Err(place(bytes.len(), rest.len())),
-        Err(ReadFault::Left(left)) => Err(place(bytes.len(), left)),
+        Ok((fields, rest)) if rest.is_empty() && size as u64 <= MOST_BYTES => Ok(fields),
+        Ok((_, rest)) => Err(place(size, rest.len())),
+        Err(ReadFault::Left(left)) => Err(place(size, left)),
         Err(ReadFault::NoMemory) => Err(DecodeFault::NoMemory),
     }
 }

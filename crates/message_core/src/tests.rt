@@ -211,8 +211,14 @@ fn faults_of_headers(rt: HostRuntime) {
 #[test]
 fn limits(rt: HostRuntime) {
     let alloc = rt.alloc();
-    let many = repeated(&rt, alloc, 0, 1_048_577);
+    let mut many = repeated(&rt, alloc, 0, 1_048_577);
+    assert_eq!(rt; fault(&rt, alloc, &many), 16, "bytes after an empty body");
+    assert_eq!(rt; many.len(), 1_048_577);
+    many[13] = 0x0f;
+    many[14] = 0xff;
+    many[15] = 0xf1;
     assert_eq!(rt; fault(&rt, alloc, &many), 1_048_576, "too many bytes");
+    assert_eq!(rt; fault_with(&rt, alloc, &many, 8, 2), 8, "an earlier fault");
     let most = body(&rt, alloc, &repeated(&rt, alloc, 0, 1_048_560));
     let made = Message::make(alloc, 1, false, 9, Vec::new(alloc), most);
     assert_eq!(rt; made.ok().expect(&rt, "a message").size(), 1_048_576);

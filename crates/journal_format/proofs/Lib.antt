@@ -1,0 +1,9 @@
+pub mod Parts
+pub mod ItemBytes
+pub mod BatchBytes
+pub mod Fronts
+pub mod First
+pub mod ManyLoop
+pub mod Filling
+pub mod Placed
+pub mod TxnLists

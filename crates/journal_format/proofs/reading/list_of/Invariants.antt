@@ -1,0 +1,7 @@
+use Rattle.std.proofs.Common.{◌≡◌, ◌-◌}
+use Rattle.journal_format.specs.Reading.{many_at, txn_at}
+use Rattle.journal_format.proofs.ManyLoop.{with_front}
+use Rattle.journal_format.proofs.reading.list_of.Given as goal
+
+abbrev pub invariant-loop : goal.invariant-loop
+invariant-loop l = with_front l.txns.items (many_at txn_at (l.count - l.counter) l.rest) ≡ many_at txn_at l.count l.bytes

@@ -1,0 +1,218 @@
+ghost use Rattle.std.specs.Prelude.{◌≡◌, ◌<◌, ◌≤◌, ◌+◌, ◌*◌, ◌^◌, [], length, replicate};
+ghost use Rattle.message_core.specs.Spelling.{IsMessage};
+
+use super::batches::{batch_size, read_batch, write_batch};
+use super::*;
+use byte_lists::{Buffer, Bytes};
+use message_core::Message;
+use std::alloc::Global;
+use std::process::Abort;
+use std::test::*;
+
+/// A journal with one commit of message 7, persistent, priority 4, body `hi`, to queue `q`.
+const JOURNAL: &[u8] = &[
+    0x51, 0x50, 0x49, 0x44, 0x51, 0x4a, 0x4e, 0x4c, 0, 0, 0, 1, 0, 0, 0, 0, 1, 0, 0, 0, 0, 0, 0, 0,
+    0x21, 0, 0, 0, 1, 0, 0, 0, 1, 1, 1, 0x71, 0, 0, 0, 0x12, 0, 0, 0, 0, 0, 0, 0, 7, 1, 4, 0, 0, 0,
+    0, 0, 2, 0x68, 0x69, 0,
+];
+/// The place of the length of the batch, behind the open gate.
+const LENGTH: u64 = 17;
+/// A batch of one transaction: the entry 258 of queue `ab` is gone. Its length is 21, and a closed gate follows.
+const GONE: &[u8] = &[
+    0, 0, 0, 0, 0, 0, 0, 0x15, 0, 0, 0, 1, 0, 0, 0, 1, 2, 2, 0x61, 0x62, 0, 0, 0, 0, 0, 0, 1, 2, 0,
+];
+
+fn bytes(rt: &impl Abort, alloc: Global, bytes: &[u8]) -> Bytes
+    ensures { result ≡ bytes.now }
+{
+    Bytes::of(alloc, bytes).expect(rt, "memory")
+}
+
+/// Message 7, persistent, priority 4, no header, body `hi`.
+fn message(rt: &impl Abort, alloc: Global) -> Message
+    ensures { result.persistent ≡ true }
+{
+    let text = &JOURNAL[40..58];
+    let read = Message::decode(alloc, text).ok().expect(rt, "a message");
+    assert!(rt; read.persistent());
+    read
+}
+
+fn batch(rt: &impl Abort, alloc: Global, bytes: &[u8], at: u64) -> Batch {
+    read_batch(alloc, bytes, at).ok().expect(rt, "a batch")
+}
+
+/// The place of the first fault of the batch at a place.
+fn fault(rt: &impl Abort, alloc: Global, bytes: &[u8], at: u64) -> u64 {
+    match read_batch(alloc, bytes, at) {
+        Err(BatchFault::NotBatch { at }) => at,
+        Err(BatchFault::NoMemory) => panic!(rt; "memory"),
+        Ok(_) => panic!(rt; "a batch"),
+    }
+}
+
+/// The same where some bytes of the journal are others.
+fn fault_with(rt: &impl Abort, alloc: Global, changes: &[(usize, u8)]) -> u64 {
+    let mut changed = Vec::from_slice(alloc, JOURNAL).expect(rt, "memory");
+    for (at, byte) in changes {
+        assert!(rt; *at < changed.len());
+        changed[*at] = *byte;
+    }
+    fault(rt, alloc, &changed, LENGTH)
+}
+
+#[test]
+fn vector_read(rt: HostRuntime) {
+    let alloc = rt.alloc();
+    let read = batch(&rt, alloc, JOURNAL, LENGTH);
+    assert_eq!(rt; read.next, 58);
+    assert_eq!(rt; read.txns.len(), 1);
+    let txn = read.txns.get(0).expect(&rt, "a transaction");
+    assert_eq!(rt; txn.len(), 1);
+    match txn.get(0) {
+        Some(Item::Entered { queue, message }) => {
+            assert_eq!(rt; queue.as_slice(), b"q".as_slice());
+            assert_eq!(rt; message.id(), 7);
+            assert_eq!(rt; message.body(), b"hi".as_slice());
+        }
+        _ => panic!(rt; "no entry"),
+    }
+}
+
+#[test]
+fn gone_read(rt: HostRuntime) {
+    let alloc = rt.alloc();
+    let read = batch(&rt, alloc, GONE, 0);
+    assert_eq!(rt; read.next, 28);
+    let txn = read.txns.get(0).expect(&rt, "a transaction");
+    match txn.get(0) {
+        Some(Item::Gone { queue, id }) => {
+            assert_eq!(rt; queue.as_slice(), b"ab".as_slice());
+            assert_eq!(rt; *id, 258);
+        }
+        _ => panic!(rt; "no entry"),
+    }
+}
+
+#[test]
+fn faults_of_lengths(rt: HostRuntime) {
+    let alloc = rt.alloc();
+    assert_eq!(rt;
+        fault(&rt, alloc, &JOURNAL[..20], LENGTH),
+        17,
+        "the length is cut"
+    );
+    assert_eq!(rt; fault(&rt, alloc, JOURNAL, 70), 70, "past the end");
+    assert_eq!(rt;
+        fault_with(&rt, alloc, &[(24, 34)]),
+        17,
+        "no byte for the next gate"
+    );
+    assert_eq!(rt;
+        fault_with(&rt, alloc, &[(17, 128)]),
+        17,
+        "more bytes than there are"
+    );
+    assert_eq!(rt;
+        fault_with(&rt, alloc, &[(24, 3)]),
+        25,
+        "the number of transactions is cut"
+    );
+    assert_eq!(rt; fault_with(&rt, alloc, &[(28, 0)]), 25, "no transaction");
+    assert_eq!(rt;
+        fault_with(&rt, alloc, &[(28, 2)]),
+        58,
+        "the second one is missing"
+    );
+    assert_eq!(rt;
+        fault_with(&rt, alloc, &[(24, 6)]),
+        29,
+        "the number of items is cut"
+    );
+    assert_eq!(rt; fault_with(&rt, alloc, &[(32, 0)]), 29, "no item");
+    assert_eq!(rt; fault_with(&rt, alloc, &[(30, 1)]), 29, "65,537 items");
+    assert_eq!(rt;
+        fault_with(&rt, alloc, &[(32, 2)]),
+        58,
+        "the second item is missing"
+    );
+    assert_eq!(rt;
+        fault_with(&rt, alloc, &[(55, 1), (39, 17)]),
+        57,
+        "a byte left over"
+    );
+}
+
+#[test]
+fn faults_of_items(rt: HostRuntime) {
+    let alloc = rt.alloc();
+    assert_eq!(rt; fault_with(&rt, alloc, &[(33, 0)]), 33, "tag 0");
+    assert_eq!(rt; fault_with(&rt, alloc, &[(33, 3)]), 33, "tag 3");
+    assert_eq!(rt; fault_with(&rt, alloc, &[(34, 0)]), 34, "an empty name");
+    assert_eq!(rt;
+        fault_with(&rt, alloc, &[(34, 65)]),
+        34,
+        "a name of 65 bytes"
+    );
+    assert_eq!(rt; fault_with(&rt, alloc, &[(34, 64)]), 34, "the name is cut");
+    assert_eq!(rt;
+        fault_with(&rt, alloc, &[(24, 13)]),
+        36,
+        "the length of the message is cut"
+    );
+    assert_eq!(rt;
+        fault_with(&rt, alloc, &[(39, 19)]),
+        40,
+        "the message is cut"
+    );
+    assert_eq!(rt;
+        fault_with(&rt, alloc, &[(33, 2), (24, 18)]),
+        36,
+        "the id is cut"
+    );
+}
+
+#[test]
+fn faults_of_messages(rt: HostRuntime) {
+    let alloc = rt.alloc();
+    assert_eq!(rt; fault_with(&rt, alloc, &[(48, 0)]), 48, "not persistent");
+    assert_eq!(rt; fault_with(&rt, alloc, &[(48, 2)]), 48, "flag 2");
+    assert_eq!(rt; fault_with(&rt, alloc, &[(49, 10)]), 49, "priority 10");
+    assert_eq!(rt;
+        fault_with(&rt, alloc, &[(48, 0), (49, 10)]),
+        48,
+        "the earlier of two"
+    );
+    assert_eq!(rt; fault_with(&rt, alloc, &[(39, 17)]), 56, "the body is cut");
+    assert_eq!(rt;
+        fault_with(&rt, alloc, &[(55, 1)]),
+        57,
+        "a byte after the body"
+    );
+    assert_eq!(rt;
+        fault_with(&rt, alloc, &[(39, 7)]),
+        40,
+        "the id of the message is cut"
+    );
+}
+
+/// Makes every call that may want memory, with ample memory, and compares the answer.
+#[test]
+fn ample(rt: HostRuntime) {
+    let alloc = rt.alloc();
+    let mut txn = Txn::with_room(alloc, 1_048_670).expect(&rt, "memory");
+    let queue = bytes(&rt, alloc, b"q");
+    let message = message(&rt, alloc);
+    assert_eq!(rt;
+        txn.entered(&queue, &message).ok().expect(&rt, "a place"),
+        27
+    );
+    assert_eq!(rt; txn.len(), 29);
+    assert_eq!(rt; txn.items(), 1);
+    let mut into = Buffer::with_room(alloc, 67_108_900).expect(&rt, "memory");
+    let txns = vec![in alloc; txn].ok().expect(&rt, "memory");
+    assert_eq!(rt; batch_size(&txns), 41);
+    write_batch(&txns, &mut into);
+    assert_eq!(rt; into.as_slice(), &JOURNAL[17..]);
+    assert_eq!(rt; batch(&rt, alloc, into.as_slice(), 0).next, 41);
+}
