@@ -1,26 +1,11 @@
 -- chains of calls
-use Rattle.std.proofs.Common.{◌≡◌, ◌≢◌, ℕ, zero, suc, ◌+◌, ◌-◌, ◌==◌, true, false, cond, Option, Some, None, List, [], ◌∷◌, ◌++◌, refl, sym, ap, ◌∙◌, subst, ⊎_elim, append_assoc, append-nil}
-use Rattle.std.proofs.lemmas.Bool.{cases_eq}
-use Rattle.std.specs.List.{AllByRecursion}
-use Rattle.std.specs.Int.{bit_at}
+use Rattle.std.proofs.Common.{◌≡◌, ℕ, List, [], ◌∷◌, ◌++◌, refl, sym, ap, ◌∙◌, append_assoc, append-nil}
 use mathlib.Core.List.{IsPrefix}
 use Rattle.queue_model.specs.declared.deeds.Act.{Act}
-use Rattle.queue_model.specs.declared.deeds.Act.TheVariants.{Acq, Lock, Unlock, Steal, Rel, Deq, Del, Reserve, GiveBack, Enq, Bell, Take}
 use Rattle.queue_model.specs.declared.deeds.Deed.{Deed}
-use Rattle.queue_model.specs.declared.queues.Queue.{Queue}
-use Rattle.queue_model.specs.declared.rows.Row.{Row}
-use Rattle.queue_model.specs.declared.rows.RowState.TheVariants.{Available, Locked, Unlocked, Dequeued, Deleted}
-use Rattle.queue_model.specs.History.{after, Legal, own, deed, deeds_of}
-use Rattle.queue_model.specs.Laws.{KeepsLock}
-use Rattle.acts_core.specs.Load.{Load}
-use Rattle.queue_model.specs.State.{is_row, row_at}
-use Rattle.queue_model.specs.Table.{Can, acted, in_state, left_in}
-use Rattle.queue_model.proofs.Histories.{after-append, legal_rest, own-cons_mine, own-cons_other}
-use Rattle.queue_model.proofs.KeyedLemmas.{find-append}
-use Rattle.queue_model.proofs.Owns.{own_rest}
+use Rattle.queue_model.specs.History.{own, deed, deeds_of}
 use Rattle.queue_model.proofs.Prefixes.{prefix_self, prefix_trans}
-use Rattle.queue_model.proofs.Stable.{untouched, apart_rows, held_row_step, held_row_stays}
-use Rattle.acts_core.specs.Calls.{Call, CallReserve, CallGiveBack, CallPut, CallNext, CallOldest, CallLock, CallUnlock, CallRelease, CallSteal, CallDequeue, CallDelete, Answer, IsAt, IsGot, IsEmpty, IsLocked, IsReleased, HasStolen, IsFreed, acts_of, takes_down, rings_up, bells_taken, bells_rung, displacing}
+use Rattle.acts_core.specs.Calls.{acts_of}
 use Rattle.acts_core.specs.Chains.{Made, Quiet, Chain, acts_in}
 use Rattle.acts_core.specs.Meaning.{Meets}
 use Rattle.acts_core.specs.Sight.{Plan}

@@ -7,7 +7,6 @@ use Rattle.queue_model.specs.declared.deeds.Act.TheVariants.{Acq, Lock, Unlock, 
 use Rattle.queue_model.specs.declared.deeds.Deed.{Deed}
 use Rattle.queue_model.specs.declared.queues.Queue.{Queue}
 use Rattle.queue_model.specs.declared.rows.Row.{Row}
-use Rattle.queue_model.specs.declared.rows.Slip.{Slip}
 use Rattle.queue_model.specs.declared.rows.RowState.{RowState}
 use Rattle.queue_model.specs.declared.rows.RowState.TheVariants.{Available, Locked, Unlocked}
 use Rattle.queue_model.specs.History.{after, Legal, own, deed, deeds_of}

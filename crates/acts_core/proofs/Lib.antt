@@ -3,3 +3,11 @@ pub mod Sparing
 pub mod Gaining
 pub mod Lasts
 pub mod Forgetting
+pub mod Reserving
+pub mod Aiming
+pub mod Finding
+pub mod Passes
+pub mod Running
+pub mod Stepping
+pub mod Walking
+pub mod Answering

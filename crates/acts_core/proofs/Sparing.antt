@@ -1,5 +1,5 @@
 -- a row that a caller holds stays as it is over its calls that spare it
-use Rattle.std.proofs.Common.{◌≡◌, ◌≢◌, ℕ, zero, suc, ◌+◌, ◌-◌, ◌==◌, true, false, cond, Option, Some, None, List, [], ◌∷◌, ◌++◌, refl, sym, ap, ◌∙◌, subst, ⊎_elim, append_assoc, append-nil}
+use Rattle.std.proofs.Common.{◌≡◌, ◌≢◌, ℕ, zero, suc, ◌+◌, ◌-◌, ◌==◌, true, false, cond, Option, Some, None, List, [], ◌∷◌, ◌++◌, refl, sym, ap, ◌∙◌, subst, ⊎_elim}
 use Rattle.std.proofs.lemmas.Bool.{cases_eq}
 use Rattle.std.specs.List.{AllByRecursion}
 use Rattle.std.specs.Int.{bit_at}
@@ -18,7 +18,6 @@ use Rattle.queue_model.specs.Table.{Can, acted, in_state, left_in}
 use Rattle.queue_model.proofs.Histories.{after-append, legal_rest, own-cons_mine, own-cons_other}
 use Rattle.queue_model.proofs.KeyedLemmas.{find-append}
 use Rattle.queue_model.proofs.Owns.{own_rest}
-use Rattle.queue_model.proofs.Prefixes.{prefix_self, prefix_trans}
 use Rattle.queue_model.proofs.Stable.{untouched, apart_rows, held_row_step, held_row_stays}
 use Rattle.acts_core.specs.Calls.{Call, CallReserve, CallGiveBack, CallPut, CallNext, CallOldest, CallLock, CallUnlock, CallRelease, CallSteal, CallDequeue, CallDelete, Answer, IsAt, IsGot, IsEmpty, IsLocked, IsReleased, HasStolen, IsFreed, acts_of, takes_down, rings_up, bells_taken, bells_rung, displacing}
 use Rattle.acts_core.specs.Hands.{Spares}
@@ -41,13 +40,13 @@ kept_mine q h (Bell s c) r x can keeps found held = found
 kept_mine q h (Take c l) r x can keeps found held = found
 
 -- the first own deed
-mine_first : (h : ℕ) (d : Deed) (ds es : List Deed) (a : Act) → d.caller ≡ h → own h (d ∷ ds) ≡ deed h a ∷ es → (d ≡ deed h a) × (own h ds ≡ es)
+pub mine_first : (h : ℕ) (d : Deed) (ds es : List Deed) (a : Act) → d.caller ≡ h → own h (d ∷ ds) ≡ deed h a ∷ es → (d ≡ deed h a) × (own h ds ≡ es)
 mine_first h d ds es a mine all =
     let e : d ∷ own h ds ≡ deed h a ∷ es = subst (λ (k : ℕ). d ∷ own k ds ≡ own k (d ∷ ds)) mine (sym (own-cons_mine d ds)) ∙ all in
     (cc, cc)
 
 -- the state at the end of a history is that after the rest of it
-after_rest : (o : Queue) (ds es : List Deed) (p : IsPrefix ds es) → after (after o ds) p.0 ≡ after o es
+pub after_rest : (o : Queue) (ds es : List Deed) (p : IsPrefix ds es) → after (after o ds) p.0 ≡ after o es
 after_rest o ds es p = sym (after-append o ds p.0) ∙ ap (after o) p.1
 
 -- a row that h holds is the very same after own acts that keep it, whatever others do
@@ -73,7 +72,7 @@ row_held o s0 s1 h r x acts p legal more keep found held =
 
 -- Acts that keep locks
 
-all_append : (P : Act → Type 0) (xs ys : List Act) → AllByRecursion P xs → AllByRecursion P ys → AllByRecursion P (xs ++ ys)
+pub all_append : (P : Act → Type 0) (xs ys : List Act) → AllByRecursion P xs → AllByRecursion P ys → AllByRecursion P (xs ++ ys)
 all_append P [] ys a b = b
 all_append P (x ∷ xs) ys a b = (a.0, all_append P xs ys a.1 b)
 

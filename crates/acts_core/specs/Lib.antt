@@ -13,3 +13,7 @@ pub mod Replies
 pub mod Kept
 pub mod Serves
 pub mod Rest
+pub mod Steps
+pub mod Walks
+pub mod Runs
+pub mod Laws

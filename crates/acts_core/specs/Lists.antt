@@ -1,5 +1,5 @@
 -- what the answers of a listed queue tell: calls look at one row after the other, while others go on
-use Rattle.std.specs.Prelude.{◌≡◌, ◌≢◌, ℕ, ◌<◌, ◌≤◌, Bool, true, false, Option, Some, None, List, [], ◌∷◌, ◌++◌}
+use Rattle.std.specs.Prelude.{◌≡◌, ◌≢◌, ℕ, ◌<◌, ◌≤◌, Bool, true, false, Some, None, List}
 use mathlib.Core.List.{IsPrefix}
 use Rattle.queue_model.specs.declared.deeds.Act.{Act}
 use Rattle.queue_model.specs.declared.deeds.Act.TheVariants.{Acq, Lock, Steal, Reserve, Take}

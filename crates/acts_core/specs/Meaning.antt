@@ -2,7 +2,6 @@
 use Rattle.std.specs.Prelude.{◌≡◌, ◌≢◌, ℕ, ◌+◌, ◌-◌, ◌<◌, List, ◌++◌}
 use mathlib.Core.List.{IsPrefix, Mem}
 use Rattle.queue_model.specs.declared.deeds.Deed.{Deed}
-use Rattle.queue_model.specs.declared.queues.Queue.{Queue}
 use Rattle.queue_model.specs.declared.steps.Tried.{Tried}
 use Rattle.queue_model.specs.History.{after, Legal, own, deeds_of}
 use Rattle.acts_core.specs.Calls.{Call, CallReserve, CallGiveBack, CallPut, CallDequeue, Answer, IsAt, IsSpent, acts_of}

@@ -1,11 +1,9 @@
 -- moments of a call, and what its caller is handed
-use Rattle.std.specs.Prelude.{◌≡◌, ◌≢◌, ℕ, Option, Some, None, List, [], ◌∷◌, ◌++◌}
+use Rattle.std.specs.Prelude.{◌≡◌, ℕ, Some, List, [], ◌∷◌, ◌++◌}
 use mathlib.Core.List.{IsPrefix}
-use Rattle.queue_model.specs.declared.deeds.Act.TheVariants.{Acq}
 use Rattle.queue_model.specs.declared.deeds.Deed.{Deed}
 use Rattle.queue_model.specs.declared.queues.Queue.{Queue}
 use Rattle.queue_model.specs.declared.rows.Row.{Row}
-use Rattle.queue_model.specs.History.{after, deed}
 use Rattle.queue_model.specs.State.{row_at}
 use Rattle.acts_core.specs.Load.{Load}
 

@@ -1,5 +1,5 @@
 -- the replies of a queue's calls, by what contracts see of a cargo
-use Rattle.std.specs.Prelude.{ℕ, Option, Some, None}
+use Rattle.std.specs.Prelude.{ℕ}
 use Rattle.std.specs.Option.{option_map}
 use Rattle.acts_core.specs.declared.cargoes.Locking.{Locking}
 use Rattle.acts_core.specs.declared.cargoes.Locking.TheVariants as locking

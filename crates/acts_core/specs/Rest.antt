@@ -1,5 +1,5 @@
 -- what is left of a queue at its end
-use Rattle.std.specs.Prelude.{◌≡◌, ◌≢◌, ℕ, Bool, true, false, IsTrue, ◌↔◌, Some, List, [], ◌∷◌}
+use Rattle.std.specs.Prelude.{◌≡◌, ◌≢◌, ℕ, Bool, false, IsTrue, ◌↔◌, List, [], ◌∷◌}
 use Rattle.std.specs.List.{AllByRecursion}
 use mathlib.Core.List.{Mem}
 use Rattle.queue_model.specs.declared.queues.Queue.{Queue}

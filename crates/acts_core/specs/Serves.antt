@@ -11,7 +11,6 @@ use Rattle.acts_core.specs.Asked.{Enters, Handed}
 use Rattle.acts_core.specs.Calls.{Call, CallDepth, CallReserve, CallGiveBack, CallPut, CallNext, CallOldest, CallFind, CallLock, CallUnlock, CallRelease, CallSteal, CallDequeue, CallDelete, Answer, acts_of}
 use Rattle.acts_core.specs.Held.{Means}
 use Rattle.acts_core.specs.Kept.{Kept, Stands}
-use Rattle.acts_core.specs.Load.{Load}
 use Rattle.acts_core.specs.Owed.{Has}
 use Rattle.acts_core.specs.Sight.{Kind, Sorted, Plan}
 

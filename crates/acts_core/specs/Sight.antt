@@ -41,6 +41,10 @@ pub record Build : Type 0 where
   -- how many rows it has room for, those of the opening among them
   pub rows : ℕ
 
+-- a listed queue whose calls neither ring nor take bells
+abbrev pub silent_lists : ℕ → Build
+silent_lists rows = record { kind = Listed; bells = false; rows = rows }
+
 -- what the meaning of a queue's calls goes by: the state before its history, and how it is built
 pub record Plan : Type 0 where
   pub opening : Queue

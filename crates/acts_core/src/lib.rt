@@ -4,7 +4,9 @@
 
 pub mod bare;
 pub mod cargoes;
+pub mod clients;
 pub mod cores;
+pub mod laws;
 pub mod shared;
 
 pub use bare::BareCore;

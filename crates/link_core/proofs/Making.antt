@@ -3,6 +3,7 @@ use Rattle.std.proofs.Common.{◌≡◌, inl, ℕ, zero, suc, ◌+◌, ◌-◌, 
 use Rattle.std.specs.Prelude.{slice_index}
 use Rattle.std.proofs.lemmas.Bool.{cases_lt}
 use Rattle.std.proofs.lemmas.List.{get_or_past, length-replicate, get_or-replicate, get_or_append_left, get_or-append_right}
+use Rattle.queue_model.specs.Table.{most_entries}
 use Rattle.queue_model.specs.Sound.{Sound}
 use Rattle.queue_model.specs.State.{empty}
 use Rattle.queue_model.proofs.SoundSteps.{sound_opening}
@@ -119,7 +120,7 @@ module _ (callers rows lists : ℕ) where
 empty_sound : (lists consumers : ℕ) → Sound (empty lists consumers)
 empty_sound lists consumers = sound_opening (empty lists consumers) (record { rows_apart = tt; rows_fit = tt; available = tt; reserved = refl; bells = refl; few = omega arith })
 
-pub fresh_stands : (lists rows consumers callers : ℕ) → rows ≤ 524288 → consumers ≤ 64 → callers ≤ 4294967296 → Stands (fresh lists rows consumers callers) (empty lists consumers)
+pub fresh_stands : (lists rows consumers callers : ℕ) → rows ≤ most_entries → consumers ≤ 64 → callers ≤ 4294967296 → Stands (fresh lists rows consumers callers) (empty lists consumers)
 fresh_stands lists rows consumers callers few_rows few_consumers few_callers = record {
   sound = empty_sound lists consumers;
   shaped = record { lists = refl; consumers = refl; few_consumers = few_consumers; few_rows = few_rows; few_callers = few_callers; long = fresh_length callers rows lists };
@@ -143,7 +144,7 @@ fresh_stands lists rows consumers callers few_rows few_consumers few_callers = r
 }
 
 -- vectors that keep a fresh table
-pub fresh_kept : (s : Store) (lists rows consumers callers : ℕ) → table_in s ≡ fresh lists rows consumers callers → IsLong s → rows ≤ 524288 → consumers ≤ 64 → callers ≤ 4294967296 → IsKept s
+pub fresh_kept : (s : Store) (lists rows consumers callers : ℕ) → table_in s ≡ fresh lists rows consumers callers → IsLong s → rows ≤ most_entries → consumers ≤ 64 → callers ≤ 4294967296 → IsKept s
 fresh_kept s lists rows consumers callers e long few_rows few_consumers few_callers = record {
   long = long;
   queue = empty lists consumers;

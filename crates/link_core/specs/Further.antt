@@ -7,6 +7,7 @@ use Rattle.queue_model.specs.declared.rows.RowState.TheVariants.{Deleted}
 use Rattle.queue_model.specs.declared.steps.Node.{Node}
 use Rattle.queue_model.specs.History.{deeds_of}
 use Rattle.link_core.specs.Layout.{link_of, mark_of, count_of, bell_of, state_of}
+use Rattle.queue_model.specs.declared.limits.TheConstants.{PLACE_WORTH}
 use Rattle.queue_model.specs.Packing.{pack_state, no_bell}
 use Rattle.link_core.specs.Steps.{list_in, place_in}
 use Rattle.link_core.specs.Table.{Table, IsLinked, IsNode}
@@ -39,7 +40,7 @@ FitsRing t c r = (c < t.consumers) × IsLinked t r
 
 -- the word of a bell that rings for a row: its place in its list above 20 bits of its number
 abbrev pub bell_word : Table → ℕ → ℕ
-bell_word t r = place_in t r * 1048576 + r
+bell_word t r = place_in t r * PLACE_WORTH + r
 
 -- the table after a bell was rung: the smaller word stands
 abbrev pub after_ring : Table → ℕ → ℕ → Table

@@ -1,6 +1,7 @@
 -- the law of lists of steps, and what it is made of; each is proved as the contract of a function in src/laws.rt
 use Rattle.std.specs.Prelude.{◌≡◌, ◌⊎◌, ℕ, suc, ◌<◌, ◌≤◌, slice_index, List, [], ◌∷◌, ◌++◌}
 use Rattle.std.specs.List.{AllByRecursion}
+use Rattle.queue_model.specs.Table.{most_entries}
 use Rattle.queue_model.specs.declared.queues.Queue.{Queue}
 use Rattle.queue_model.specs.declared.rows.Row.{Row}
 use Rattle.queue_model.specs.declared.rows.RowState.TheVariants.{Deleted}
@@ -15,7 +16,7 @@ use Rattle.link_core.specs.Table.{Table}
 
 -- The words of a fresh table stand for an empty queue.
 abbrev pub FreshLaw : Type 0
-FreshLaw = (lists rows consumers callers : ℕ) → rows ≤ 524288 → consumers ≤ 64 → callers ≤ 4294967296 → Stands (fresh lists rows consumers callers) (empty lists consumers)
+FreshLaw = (lists rows consumers callers : ℕ) → rows ≤ most_entries → consumers ≤ 64 → callers ≤ 4294967296 → Stands (fresh lists rows consumers callers) (empty lists consumers)
 
 -- Where the words stand for a state, the deed of a step that fits is legal there, and the words afterwards stand for
 -- the state after it.
@@ -25,7 +26,7 @@ StepLaw = (t : Table) (q : Queue) (h : ℕ) (step : Step) → Stands t q → Fit
 -- After every list of steps that fit, from a fresh table on, the deeds of the steps are a legal history, and the words
 -- stand for the state after it.
 abbrev pub Law : Type 0
-Law = (lists rows consumers callers : ℕ) (steps : List (ℕ × Step)) → rows ≤ 524288 → consumers ≤ 64 → callers ≤ 4294967296
+Law = (lists rows consumers callers : ℕ) (steps : List (ℕ × Step)) → rows ≤ most_entries → consumers ≤ 64 → callers ≤ 4294967296
     → AllFit (fresh lists rows consumers callers) steps
     → Legal (empty lists consumers) (all_deeds (fresh lists rows consumers callers) steps)
     × Stands (all_moved (fresh lists rows consumers callers) steps) (after (empty lists consumers) (all_deeds (fresh lists rows consumers callers) steps))

@@ -1,5 +1,6 @@
 -- when the words of a table stand for the state of a queue
 use Rattle.std.specs.Prelude.{◌≡◌, ◌≢◌, ◌⊎◌, ℕ, ◌+◌, ◌*◌, ◌<◌, ◌≤◌, suc, Option, Some, None, IsSome, List, [], ◌∷◌, length, slice_index}
+use Rattle.queue_model.specs.Table.{most_entries}
 use Rattle.queue_model.specs.declared.queues.Queue.{Queue}
 use Rattle.queue_model.specs.declared.rows.Row.{Row}
 use Rattle.queue_model.specs.declared.rows.RowState.TheVariants.{Deleted}
@@ -17,7 +18,7 @@ pub record IsShaped (t : Table) (q : Queue) : Type 0 where
   pub lists : t.lists ≡ q.lists
   pub consumers : t.consumers ≡ q.consumers
   pub few_consumers : t.consumers ≤ 64
-  pub few_rows : t.rows ≤ 524288
+  pub few_rows : t.rows ≤ most_entries
   pub few_callers : t.callers ≤ 4294967296
   pub long : length t.words ≡ words_of t.rows t.lists
 

@@ -1,4 +1,5 @@
 //! The words of a table that a program can keep and change, one step at a time.
+ghost use Rattle.queue_model.specs.Table.{most_entries};
 ghost use Rattle.std.specs.Prelude.{◌≡◌, ◌≤◌, IfOk, OnErr};
 ghost use Rattle.link_core.specs.Advanced.{Advances};
 ghost use Rattle.link_core.specs.Fresh.{fresh};
@@ -44,7 +45,7 @@ impl Words {
         consumers: u32,
         callers: u64,
     ) -> Result<Words, NoMemory>
-        requires rows { rows ≤ 524288 }
+        requires rows { rows ≤ most_entries }
         requires consumers { consumers ≤ 64 }
         requires callers { callers ≤ 4294967296 }
         ensures { IfOk result (λ w. table_of w ≡ fresh lists rows consumers callers) }

@@ -1,10 +1,14 @@
-use crate::{Failed, MemorySink, MemorySource, Sink, Source, StdSink, StdSource, write_all};
+use crate::{
+    Failed, FreeGate, Gate, LineGate, MemorySink, MemorySource, Sink, Source, StdSink, StdSource,
+    write_all,
+};
 use byte_lists::Bytes;
 use std::alloc::Global;
-use std::io;
 use std::io::{Read, Write};
 use std::process::Abort;
+use std::sync::atomic::{AtomicU64, Ordering};
 use std::test::Fail;
+use std::{io, thread};
 
 /// A reader that fails once, and then is at its end.
 #[derive(Drop)]
@@ -179,4 +183,37 @@ fn writes_all_or_a_front(rt: HostRuntime) -> Result<(), Fail> {
     assert_eq!(rt; write_all(&mut sink, b"d"), Err(Failed));
     assert_eq!(rt; narrow.kept.as_slice(), b"abc".as_slice());
     Ok(())
+}
+
+// Does a line behind a gate, and answers which line was done last before it.
+fn pass<G: Gate>(gate: &G, last: &AtomicU64, line: u64) -> u64 {
+    gate.before(line);
+    let before = last.swap(line, Ordering::SeqCst);
+    gate.after(line);
+    before
+}
+
+#[test]
+fn lines_pass_in_order(rt: HostRuntime) {
+    let gate = LineGate::make(2, 10_000_000);
+    let last = AtomicU64::new(1);
+    let (of_third, of_second) = thread::join(
+        &rt,
+        || pass(&gate, &last, 3),
+        || pass(&gate, &last, 2),
+    );
+    assert_eq!(rt; (of_second, of_third), (1, 2));
+    assert!(rt; !gate.late());
+}
+
+#[test]
+fn late_lines(rt: HostRuntime) {
+    let gate = LineGate::make(2, 3);
+    let last = AtomicU64::new(1);
+    assert_eq!(rt; pass(&FreeGate, &last, 9), 1);
+    assert_eq!(rt; pass(&gate, &last, 2), 9);
+    assert!(rt; !gate.late());
+    // Line 3 was not answered yet, and line 4 is not counted where it passes too early.
+    assert_eq!(rt; pass(&gate, &last, 4), 2);
+    assert!(rt; gate.late());
 }

@@ -121,6 +121,6 @@ pub struct Tried {
     pub before: u64,
     /// What the word held after the step; the same where the step changed nothing.
     pub later: u64,
-    /// How many deeds of the queue's history the caller knew to stand before the step's own.
+    /// How many deeds of the queue's history the caller knew just after the step, its own among them.
     pub length: u64,
 }

@@ -49,11 +49,13 @@ pub enum Answer {
     Rejected {
         depth: Depth,
     },
-    /// A put was refused: the queue has this depth, and is not below its limits again yet.
+    /// A put was refused: the queue has this depth, with which the message would pass its limits, or which is
+    /// still too high for an actor that such a put has stopped.
     Blocked {
         depth: Depth,
     },
-    /// The device failed, and nothing was done.
+    /// The device failed: the line's commit was not stored. Nothing entered or left a queue for it, but an entry that
+    /// was to be acknowledged stays held, and a transaction gave back what it had reserved.
     Failed,
     /// The line's transaction would be longer than one may be.
     TooLong,
@@ -66,7 +68,7 @@ pub enum Answer {
     Empty,
     /// A take was refused: the consumer has no credit.
     NoCredit,
-    /// The actor or the consumer is closed.
+    /// The consumer is closed: a take from it finds it so, and a close leaves it so.
     Closed,
     /// A take got the message, but could not load its body. `held` says that the actor still holds it.
     FailedId {

@@ -1,0 +1,12 @@
+use Rattle.std.proofs.Common.{rules, ◌≡◌, sym, ap, ◌∙◌, subst, List}
+use Rattle.atomic_table.specs.declared.badge.Badge.{Badge}
+use Rattle.entry_table.specs.declared.view.View.{View}
+use Rattle.entry_table.specs.Views.{view_in}
+use Rattle.entry_table.specs.Plays.{Taking}
+use Rattle.entry_table.proofs.entries.Entries.take_row.Goals as goal
+
+pub returns-clause-answer : goal.returns-clause-answer
+returns-clause-answer g c =
+    let before : c.into_seat-seat.result.me.0 ≡ view_in c.args.pass.now.badge.views = ap view_in (sym c.into_seat-seat.ensures.2) ∙ ap (λ (b : Badge View). view_in b.views) c.replace.ensures.value in
+    let later : c.take_at-answer.new.seat.me.0 ≡ view_in c.into_badge.result.views = ap view_in (sym c.into_badge.ensures.2) in
+    subst (λ (x : View × View). Taking g.C.Freight.goods c.args.row c.args.change c.args.from x.0 x.1 c.take_at-answer.result) (λ i. (before i, later i)) c.take_at-answer.ensures.answer

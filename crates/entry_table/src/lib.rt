@@ -1,0 +1,27 @@
+//! The table of a listed queue: single steps of many callers on the words of its rows, and what each caller
+//! knows of the one history that the steps make. docs/QUEUE-MODEL.md, "Passes", says what a pass knows and
+//! what rule holds between any two steps.
+#![tactic(auto)]
+
+mod carried;
+mod depths;
+mod draft;
+mod draws;
+mod entries;
+mod follows;
+mod givings;
+mod homes;
+mod links;
+mod loads;
+mod pass;
+mod plays;
+mod rest;
+mod splits;
+mod states;
+mod tails;
+mod view;
+
+pub use draft::{Draft, Drawn, Linking};
+pub use entries::Entries;
+pub use pass::Pass;
+pub use view::{Drawing, Ruling, Shape, Told, View};

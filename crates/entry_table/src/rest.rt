@@ -1,0 +1,153 @@
+//! What a closed table leaves.
+ghost use Rattle.std.specs.Prelude.{[], ◌≡◌, ◌<◌, ◌≤◌, ℕ, ◌+◌, ◌*◌, slice_set, length, Some, None, vec_capacity, vec_len, slice_index_or, false, Option};
+ghost use Rattle.std.specs.Slots.{slots_items, slots_len, slots_filled, IsFull};
+ghost use mathlib.Core.Option.{some};
+ghost use lib.ListN.{get_elem?};
+ghost use Rattle.queue_model.specs.declared.rows.RowState.{RowState};
+ghost use Rattle.queue_model.specs.declared.rows.Row.{Row};
+ghost use Rattle.queue_model.specs.declared.queues.Queue.{Queue};
+ghost use Rattle.queue_model.specs.Packing.{pack_state};
+ghost use Rattle.link_core.specs.Layout.{head_of, row_link_of, words_of};
+ghost use Rattle.link_core.specs.Stands.{Stands};
+ghost use Rattle.entry_table.specs.Resting.{IsRest, AreRests, Rested, Legible, Settled, IsFor, rests};
+ghost use Rattle.queue_model.specs.History.{own};
+ghost use Rattle.entry_table.specs.Views.{Has};
+ghost use Rattle.entry_table.specs.Passes.{IsPassOf, view, callers, state, seen};
+
+use crate::entries::Entries;
+use crate::pass::Pass;
+use acts_core::{Freight, RestEntry};
+use atomic_table::Closed;
+use link_core::places::{IDENT_AT, MASK_AT, SIZE_AT, STATE_AT, list_place, row_place, state_of};
+use queue_model::{RowState, Slip};
+use std::alloc::Global;
+use std::mem;
+
+// The cargo of a row that waits.
+fn unload<C>(parcels: &mut Vec<Option<C>>, row: usize) -> C
+    requires there { (c : C) × (get_elem? parcels.old.items row ≡ some (Some c)) }
+    ensures value { get_elem? parcels.old.items row ≡ some (Some result) }
+    ensures others { parcels.new.items ≡ slice_set parcels.old.items row None }
+{
+    match mem::replace(&mut parcels[row], None) {
+        Some(cargo) => cargo,
+        None => unreachable!(),
+    }
+}
+
+fn resting<C: Freight>(
+    closed: &Closed<Option<C>, Global>,
+    row: u64,
+    list: u32,
+    state: RowState,
+    cargo: C,
+) -> RestEntry<C>
+    requires words { IsFull closed.now.words × (row_link_of (row + 1) ≤ slots_len closed.now.words) }
+    requires low { row < 524288 }
+    ensures { (q : Queue) (x : Row) → IsFor C.goods (slots_items closed.now.words) q row list state cargo x → IsRest C.goods result x }
+{
+    let at = row_place(row);
+    RestEntry {
+        slip: Slip {
+            id: closed.word(at + IDENT_AT),
+            size: closed.word(at + SIZE_AT),
+            mask: closed.word(at + MASK_AT),
+            list,
+            key: None,
+        },
+        state,
+        outdated: false,
+        cargo,
+    }
+}
+
+// All slots' values, by number.
+fn emptied<C>(closed: &mut Closed<Option<C>, Global>, parcels: &mut Vec<Option<C>>)
+    requires full { IsFull closed.old.slots }
+    requires room { slots_len closed.old.slots ≤ vec_capacity parcels.old }
+    requires none { vec_len parcels.old ≡ 0 }
+    ensures values { (k : ℕ) (y : Option C) → get_elem? (slots_items closed.old.slots) k ≡ some y → get_elem? parcels.new.items k ≡ some y }
+    ensures long { length parcels.new.items ≡ slots_len closed.old.slots }
+    ensures words { closed.new.words ≡ closed.old.words }
+    ensures taken { (k : ℕ) → k < slots_len closed.new.slots → slice_index_or (slots_filled closed.new.slots) k false ≡ false }
+{
+    let mut i = 0;
+    'slots: while i < closed.slot_count() {
+        parcels.push_reserved(closed.take(i));
+        i += 1;
+    }
+}
+
+// Adds the rows of a list that aren't deleted.
+fn gather<C: Freight>(
+    closed: &Closed<Option<C>, Global>,
+    rows: u64,
+    list: u32,
+    parcels: &mut Vec<Option<C>>,
+    rest: &mut Vec<RestEntry<C>>,
+)
+    requires words { IsFull closed.now.words × (head_of rows (list + 1) ≤ slots_len closed.now.words) }
+    requires small { rows ≤ 524288 }
+    requires at { (q : Queue) × Legible (slots_items closed.now.words) rows q × (list < q.lists) × Rested C.goods q (list + 1) rest.old.items parcels.old.items × (length (rests q.lists q) ≤ vec_capacity rest.old) }
+    ensures rested { (q : Queue) → Legible (slots_items closed.now.words) rows q → list < q.lists → Rested C.goods q (list + 1) rest.old.items parcels.old.items → Rested C.goods q list rest.new.items parcels.new.items }
+    ensures room { vec_capacity rest.new ≡ vec_capacity rest.old }
+{
+    let mut left = rows;
+    let mut link = closed.word(list_place(rows, list));
+    'rows: while link != 0 {
+        let row = link - 1;
+        left -= 1;
+        let at = row_place(row);
+        let word = closed.word(at + STATE_AT);
+        if word != 3 {
+            let cargo = unload(parcels, row as usize);
+            rest.push_reserved(resting(closed, row, list, state_of(word), cargo));
+        }
+        link = closed.word(at);
+    }
+}
+
+// Adds the rows of all lists that aren't deleted, from the last list down.
+fn gather_all<C: Freight>(
+    closed: &Closed<Option<C>, Global>,
+    rows: u64,
+    lists: u32,
+    parcels: &mut Vec<Option<C>>,
+    rest: &mut Vec<RestEntry<C>>,
+)
+    requires words { IsFull closed.now.words × (slots_len closed.now.words ≡ words_of rows lists) }
+    requires small { rows ≤ 524288 }
+    requires at { (q : Queue) × Legible (slots_items closed.now.words) rows q × (lists ≡ q.lists) × Rested C.goods q lists rest.old.items parcels.old.items × (length (rests q.lists q) ≤ vec_capacity rest.old) }
+    ensures rested { (q : Queue) → Legible (slots_items closed.now.words) rows q → lists ≡ q.lists → Rested C.goods q lists rest.old.items parcels.old.items → Rested C.goods q 0 rest.new.items parcels.new.items }
+{
+    let mut list = lists;
+    'lists: while list != 0 {
+        list -= 1;
+        gather(closed, rows, list, parcels, rest);
+    }
+}
+
+impl<C: Freight> Entries<C> {
+    /// Ends the table, for the boss into which all passes were joined. The rows that aren't deleted are left, in
+    /// queue order.
+    pub fn close(self, boss: Pass) -> Vec<RestEntry<C>>
+        requires table { IsPassOf self boss }
+        requires boss { (boss.caller ≡ 0) × ((k : ℕ) → k < (view boss).made → Has k (callers boss)) }
+        requires settled { Settled (state boss) }
+        ensures rest { AreRests C.goods result.items (rests (state boss).lists (state boss)) }
+        ensures callers { (k : ℕ) → (view boss).made ≤ k → own k (seen boss) ≡ [] }
+    {
+        let Entries {
+            table,
+            shape,
+            mut parcels,
+            mut rest,
+        } = self;
+        let Pass { badge, .. } = boss;
+        let mut closed = table.close_with(badge.into_seat::<Option<C>>());
+        emptied(&mut closed, &mut parcels);
+        gather_all(&closed, shape.rows, shape.lists, &mut parcels, &mut rest);
+        closed.free();
+        rest
+    }
+}

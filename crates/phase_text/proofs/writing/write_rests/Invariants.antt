@@ -1,0 +1,10 @@
+use Rattle.std.proofs.Common.{take, Ok}
+use Rattle.std.specs.List.{flat_map}
+use Rattle.outside_io.specs.Says.{Says}
+use Rattle.outside_io.specs.declared.outside.Failed.{Failed}
+use Rattle.phase_text.specs.Logs.{rest_text}
+use Rattle.phase_text.proofs.writing.write_rests.Given as goal
+
+abbrev pub invariant-rests : goal.invariant-rests
+invariant-rests g l = Says {E = Failed} (Ok (record {})) (g.K.Sink.written l.initial.out) (g.K.Sink.written l.out)
+    (g.K.Sink.faults l.initial.out) (g.K.Sink.faults l.out) (flat_map (rest_text l.actors) (take l.rest-index l.rests))
