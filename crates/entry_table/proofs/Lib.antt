@@ -20,6 +20,7 @@ pub mod Opening
 pub mod Counting
 pub mod Closing
 pub mod Leaving
+pub mod Remaining
 pub mod Exchanging
 pub mod Outs
 pub mod Tailing

@@ -26,3 +26,6 @@ pub use draft::{Draft, Drawn, Linking};
 pub use entries::Entries;
 pub use pass::Pass;
 pub use view::{Drawing, Ruling, Shape, Told, View};
+
+#[cfg(test)]
+mod tests;
