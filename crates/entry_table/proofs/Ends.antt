@@ -1,10 +1,10 @@
 -- the ends of lists while entries are laid down
-use Rattle.std.proofs.Common.{true, false, ◌≡◌, ◌≢◌, ℕ, zero, suc, ◌+◌, ◌-◌, ◌*◌, ◌<◌, ◌≤◌, ◌==◌, ◌⊎◌, eqb, List, [], ◌∷◌, ◌++◌, length, length-append, filter, find, set, Option, Some, None, refl, sym, ap, ◌∙◌, subst, arith, append-nil, append_assoc, inl, inr, ⊎_elim, eq-eqb, ne_eqb, reverse}
+use Rattle.std.proofs.Common.{true, false, ◌≡◌, ◌≢◌, ℕ, zero, suc, ◌+◌, ◌-◌, ◌*◌, ◌<◌, ◌≤◌, ◌==◌, ◌⊎◌, eqb, List, [], ◌∷◌, ◌++◌, length, length-append, filter, find, set, Option, Some, None, refl, sym, ap, ◌∙◌, subst, arith, append-nil, append_assoc, inl, inr, ⊎_elim, eq-eqb, ne_eqb, reverse, take, drop, add-zero}
 use Rattle.std.specs.Prelude.{slice_index, vec_len}
 use Rattle.std.specs.List.{AllByRecursion, position_or_len}
 use Rattle.std.specs.Option.{option_map_or}
 use Rattle.std.proofs.lemmas.Bool.{cases_eq, cond-true, cond-false}
-use Rattle.std.proofs.lemmas.List.{reverse-append, length-reverse, length-set, get_or-set_same, get_or-set_other}
+use Rattle.std.proofs.lemmas.List.{reverse-append, reverse-reverse, length-reverse, take_all, drop_all, length-set, get_or-set_same, get_or-set_other}
 use Rattle.std.proofs.lemmas.List.Elements.{filter-append}
 use Rattle.queue_model.specs.declared.queues.Queue.{Queue}
 use Rattle.queue_model.specs.declared.rows.Row.{Row}
@@ -45,7 +45,7 @@ end_more q x w n new low e =
     let found : row_at (laid q x) r ≡ Some x = row_push r q.rows x new refl in
     let list : list_at (laid q x) r ≡ l = list_is (laid q x) r x found in
     let at : place_at (laid q x) r ≡ length (rows_of q l) =
-        place_is (laid q x) r l list ∙ (ap (position_or_len (is_row r)) (rows_more q x) ∙ position-push (is_row r) (rows_of q l) x (find_none-filter (is_row r) (is_of_list l) q.rows new) (eq-eqb r r refl)) in
+    place_is (laid q x) r l list ∙ (ap (position_or_len (is_row r)) (rows_more q x) ∙ position-push (is_row r) (rows_of q l) x (find_none-filter (is_row r) (is_of_list l) q.rows new) (eq-eqb r r refl)) in
     let long = e.long in record {
       known = (x, found);
       list = list;
@@ -149,14 +149,112 @@ module _ {C : Type 0} (load : C → Load) where
             (subst (λ (k : ℕ). IsEnd (laid q d.x) k (suc d.x.number) (n + 1)) list
             (end_more q d.x (slice_index stops l) n new (subst (λ (k : ℕ). k < q.lists) (sym list) low') (subst (λ (k : ℕ). IsEnd q k (slice_index stops l) n) (sym list) (t.ends l low))))))
             (λ (miss : l ≢ m).
-            subst (λ (z : Queue × ℕ × ℕ). IsEnd z.0 m z.1 z.2) (λ i. (sym d.state i, sym (get_or-set_other stops l m (row + 1) 0 miss) i, sym (get_or-set_other places l m (n + 1) 0 miss) i))
+            subst (λ (z : Queue × ℕ × ℕ). IsEnd z.0 m z.1 z.2) (λ i. (sym d.state i, sym (get_or-set_other stops l m (row + 1) 0 (λ z. miss (sym z))) i, sym (get_or-set_other places l m (n + 1) 0 (λ z. miss (sym z))) i))
             (end_other q d.x m (slice_index stops m) (slice_index places m) (λ z. miss (sym list ∙ z)) (t.ends m under')))
             (cases_eq l m);
         few = λ m under. let under' : m < v.shape.lists = subst (λ (s : Shape). m < s.lists) shape under in ⊎_elim
             (λ (hit : l ≡ m). subst (λ (k : ℕ). slice_index places' k ≤ length (done ++ (slip, c) ∷ [])) hit
             (let here = get_or-set_same places l (n + 1) 0 (omega (arith, low, few_lists, long_places)) in let small_n = t.few l low in omega (arith, here, small_n, more)))
-            (λ (miss : l ≢ m). let there = get_or-set_other places l m (n + 1) 0 miss in let small_m = t.few m under' in omega (arith, there, small_m, more))
+            (λ (miss : l ≢ m). let there = get_or-set_other places l m (n + 1) 0 (λ z. miss (sym z)) in let small_m = t.few m under' in omega (arith, there, small_m, more))
             (cases_eq l m);
         long_stops = length-set stops l (row + 1) ∙ long_stops;
         long_places = length-set places l (n + 1) ∙ long_places;
       }
+
+-- All entries
+
+module _ {C : Type 0} (load : C → Load) where
+  -- the entries done, and those that are left, last first
+  pub record Going (all : List (Slip × C)) (v : View) (stops places : List ℕ) (left : List (Slip × C)) : Type 0 where
+    pub done : List (Slip × C)
+    pub whole : all ≡ done ++ reverse left
+    pub laying : Laying load done v stops places
+    pub may : AllMayStart load v.shape.lists v.shape.consumers (reverse left)
+
+  -- before the first one
+  pub going_begins : (shape : Shape) (all left : List (Slip × C)) (stops places : List ℕ) → length stops ≡ 10 → length places ≡ 10 → ((l : ℕ) → slice_index stops l ≡ 0) → ((l : ℕ) → slice_index places l ≡ 0) → left ≡ reverse all → AllMayStart load shape.lists shape.consumers all
+      → Going all (boss shape) stops places left
+  going_begins shape all left stops places long_stops long_places no_stop no_place turned may =
+      let back : all ≡ reverse left = sym (ap reverse turned ∙ reverse-reverse all) in
+      record {
+        done = [];
+        whole = back;
+        laying = record {
+          base = record { alone = refl; caller = refl; made = refl; served = refl; rows = tt; reserved = refl; bells = refl; allowed = refl; shared = add-zero shape.rows };
+          ends = λ l low. subst (λ (z : ℕ × ℕ). IsEnd (state_in (boss shape)) l z.0 z.1) (λ i. (sym (no_stop l) i, sym (no_place l) i)) (record { known = low; list = refl; place = refl; last = refl; long = refl });
+          few = λ l low. let none_yet = no_place l in omega (arith, none_yet);
+          long_stops = long_stops;
+          long_places = long_places;
+        };
+        may = subst (AllMayStart load shape.lists shape.consumers) back may;
+      }
+
+  -- the next one
+  pub record Next (all : List (Slip × C)) (v : View) (stops places : List ℕ) (left : List (Slip × C)) (slip : Slip) (c : C) : Type 0 where
+    pub done : List (Slip × C)
+    pub laying : Laying load done v stops places
+    pub less : length done < length all
+    pub may : MayStart load v.shape.lists v.shape.consumers slip c
+    pub rest : (w : View) (s p : List ℕ) → w.shape ≡ v.shape → Laying load (done ++ (slip, c) ∷ []) w s p → Going all w s p left
+
+  pub going_next : (all : List (Slip × C)) (v : View) (stops places : List ℕ) (old left : List (Slip × C)) (slip : Slip) (c : C) → old ≡ left ++ (slip, c) ∷ [] → Going all v stops places old → Next all v stops places left slip c
+  going_next all v stops places old left slip c last g =
+      let front : reverse old ≡ (slip, c) ∷ reverse left = ap reverse last ∙ reverse-append left ((slip, c) ∷ []) in
+      let whole : all ≡ g.done ++ (slip, c) ∷ reverse left = g.whole ∙ ap (λ (l : List (Slip × C)). g.done ++ l) front in
+      let may = subst (AllMayStart load v.shape.lists v.shape.consumers) front g.may in
+      let long = length-append g.done ((slip, c) ∷ reverse left) in
+      let all_long = ap length whole in
+      record {
+        done = g.done;
+        laying = g.laying;
+        less = omega (arith, long, all_long);
+        may = may.0;
+        rest = λ w s p shape t. record {
+          done = g.done ++ (slip, c) ∷ [];
+          whole = whole ∙ sym (append_assoc g.done ((slip, c) ∷ []) (reverse left));
+          laying = t;
+          may = subst (λ (z : Shape). AllMayStart load z.lists z.consumers (reverse left)) (sym shape) may.1;
+        };
+      }
+
+  -- and after the last one
+  pub going_ends : (all : List (Slip × C)) (v : View) (stops places : List ℕ) (left : List (Slip × C)) → left ≡ [] → Going all v stops places left → IsLaid load all v
+  going_ends all v stops places left none_left g =
+      let whole : all ≡ g.done = g.whole ∙ (ap (λ (l : List (Slip × C)). g.done ++ reverse l) none_left ∙ append-nil g.done) in
+      subst (λ (l : List (Slip × C)). IsLaid load l v) (sym whole) g.laying.base
+
+  -- what was laid down is an opening
+  pub laid_opens : (all : List (Slip × C)) (v : View) → IsLaid load all v → Within v.shape (state_in v) → v.shape.rows ≤ 524288 → IsOpening (state_in v)
+  laid_opens all v b within small =
+      let long = started_long load all (state_in v).rows b.rows in
+      let shared = b.shared in record {
+        rows_apart = within.sound.rows_apart;
+        rows_fit = within.sound.rows_fit;
+        available = started_available load all (state_in v).rows b.rows;
+        reserved = b.reserved;
+        bells = b.bells;
+        few = omega (arith, long, shared, small);
+      }
+
+-- the items of a vector that was turned round
+pub turned_items : {X : Type 0} (items new : List X) (len : ℕ) → length items ≡ len → new ≡ reverse items → take len (new ++ drop (length new) items) ≡ reverse items
+turned_items items new len long e =
+    let same : length new ≡ length items = ap length e ∙ length-reverse items in
+    ap (λ (l : List _). take len (new ++ l)) (drop_all (length new) items (omega (arith, same))) ∙ (ap (take len) (append-nil new) ∙ (take_all len new (omega (arith, same, long)) ∙ e))
+
+-- ten zeros
+abbrev pub zeros : List ℕ
+zeros = 0 ∷ 0 ∷ 0 ∷ 0 ∷ 0 ∷ 0 ∷ 0 ∷ 0 ∷ 0 ∷ 0 ∷ []
+
+pub zero_at : (l : ℕ) → slice_index zeros l ≡ 0
+zero_at zero = refl
+zero_at (suc zero) = refl
+zero_at (suc (suc zero)) = refl
+zero_at (suc (suc (suc zero))) = refl
+zero_at (suc (suc (suc (suc zero)))) = refl
+zero_at (suc (suc (suc (suc (suc zero))))) = refl
+zero_at (suc (suc (suc (suc (suc (suc zero)))))) = refl
+zero_at (suc (suc (suc (suc (suc (suc (suc zero))))))) = refl
+zero_at (suc (suc (suc (suc (suc (suc (suc (suc zero)))))))) = refl
+zero_at (suc (suc (suc (suc (suc (suc (suc (suc (suc zero))))))))) = refl
+zero_at (suc (suc (suc (suc (suc (suc (suc (suc (suc (suc l)))))))))) = refl

@@ -155,7 +155,7 @@ empty_link t q row (nodes.Row a) s known last =
     let low = last.2 in
     let few : l < t.lists = omega (arith, same, low) in
     subst (λ (k : ℕ). slice_index t.words (row_link_of k) ≡ 0) last.4
-        (chain_last (slice_index t.words (link_of t.rows (nodes.Head l))) t.words last.0 last.1 (subst (λ (xs : List Row). Chain t.words (slice_index t.words (link_of t.rows (nodes.Head l))) xs) last.3 (s.links l few)))
+    (chain_last (slice_index t.words (link_of t.rows (nodes.Head l))) t.words last.0 last.1 (subst (λ (xs : List Row). Chain t.words (slice_index t.words (link_of t.rows (nodes.Head l))) xs) last.3 (s.links l few)))
 
 -- One entry
 
@@ -245,8 +245,8 @@ module _ {C : Type 0} (load : C → Load) where
           let k_3 : caller_of v3.callers ≡ 0 = ap caller_of callers_3 ∙ zero_caller in
           let deeds : by_me v3 a ∷ [] ≡ deed 0 a' ∷ [] = λ i. deed (k_3 i) (is_a i) ∷ [] in
           let now : state_in u ≡ acted (reserving q 0 slip.size) 0 a' =
-              state_more v3 u (by_me v3 a ∷ []) alone_3 e.went (ap (λ (z : View). z.opening) e.view)
-              ∙ (ap (after (state_in v3)) deeds ∙ ap (λ (z : Queue). acted z 0 a') state_3) in
+          state_more v3 u (by_me v3 a ∷ []) alone_3 e.went (ap (λ (z : View). z.opening) e.view)
+          ∙ (ap (after (state_in v3)) deeds ∙ ap (λ (z : Queue). acted z 0 a') state_3) in
           let legal : Legal v3.opening (v3.seen ++ deed 0 a' ∷ []) = subst (Legal v3.opening) (e.went.alone alone_3 ∙ ap (λ (ds : List Deed). v3.seen ++ ds) deeds) e.went.steps.legal in
           let fits = (legal_rest v3.opening v3.seen (deed 0 a' ∷ []) legal).0 in
           let G3 : View → View = λ z. record z { reached = u.reached; drawn = drawn_without draft.row v3.drawn; told = []; seen = u.seen; shown = u.shown } in

@@ -7,8 +7,8 @@ use Rattle.entry_table.proofs.entries.Entries.blank.Goals as goal
 pub vacant-requires : goal.vacant-requires
 vacant-requires g c =
     subst (λ (l : List ℕ). Ruled g.C.Freight.goods c.args.shape (opening l (replicate c.args.shape.rows None) (boss c.args.shape)))
-        (sym (c.as_slice.ensures.value ∙ c.in_ok-words.ensures))
-        (begins g.C.Freight.goods c.args.shape c.requires.rows c.requires.consumers)
+    (sym (c.as_slice.ensures.value ∙ c.in_ok-words.ensures))
+    (begins g.C.Freight.goods c.args.shape c.requires.rows c.requires.consumers)
 
 pub invariant_of-entries : goal.invariant_of-entries
 invariant_of-entries g c =

@@ -13,8 +13,8 @@ pub try_link-requires-clause-draft : goal.try_link-requires-clause-draft
 try_link-requires-clause-draft g c =
     let caller : c.write.new.pass.caller ≡ 0 = c.write.ensures.caller ∙ c.draw_row.ensures.kept.caller ∙ c.reserve_depth.ensures.kept.caller ∙ c.requires.caller in
     subst (λ (z : ℕ × Node). CanLink g.C.Freight.goods (view c.write.new.pass) z.0 c.write.new.draft z.1) (λ i. (sym caller i, sym c.node_at.ensures i))
-        (can_link g.C.Freight.goods (view c.args.pass.now) (view c.reserve_depth.new.pass) (view c.draw_row.new.pass) (view c.write.new.pass) c.args.stop c.args.place c.in-Row.draft.row c.args.slip c.args.cargo
-        c.requires.can c.reserve_depth.ensures.reserved c.in-Row.ensures.answer.2 c.write.ensures.wrote c.write.new.draft c.write.ensures.same.0 (c.write.ensures.same.1 ∙ c.in-Row.ensures.answer.1))
+    (can_link g.C.Freight.goods (view c.args.pass.now) (view c.reserve_depth.new.pass) (view c.draw_row.new.pass) (view c.write.new.pass) c.args.stop c.args.place c.in-Row.draft.row c.args.slip c.args.cargo
+    c.requires.can c.reserve_depth.ensures.reserved c.in-Row.ensures.answer.2 c.write.ensures.wrote c.write.new.draft c.write.ensures.same.0 (c.write.ensures.same.1 ∙ c.in-Row.ensures.answer.1))
 
 pub unreachable-requires-in-Behind : goal.unreachable-requires-in-Behind
 unreachable-requires-in-Behind g c =
