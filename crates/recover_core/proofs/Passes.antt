@@ -12,9 +12,9 @@ use Rattle.journal_format.specs.Spelling.{Txn, item_bytes, txn_bytes}
 use Rattle.journal_format.specs.Journal.{open_bytes}
 use Rattle.recover_core.specs.declared.kept.Kept.{Kept}
 use Rattle.recover_core.specs.declared.keys.Key.{Key}
-use Rattle.recover_core.specs.Places.{Found, found, founds_in, founds_of, founds}
+use Rattle.recover_core.specs.Places.{Found, found, founds_in, founds_of, founds, kept}
 use Rattle.recover_core.specs.Passed.{Passed, first_place, IsBefore, founds_read}
-use Rattle.recover_core.specs.Recovered.{batches_from}
+use Rattle.recover_core.specs.Recovered.{batches_from, AreBatches, IsRecovered}
 
 -- the last of some, and its bytes
 last_of : {A : Type 0} (f : A → List ℕ) (all left : List A) (x : A) → all ≡ left ++ x ∷ [] → length (flat_map f all) ≡ length (flat_map f left) + length (f x)
@@ -136,3 +136,16 @@ before_from gate (b ∷ bs) = (omega (arith, open_size b), before_from (gate + l
 
 pub all_before : (bs : List (List Txn)) → All IsBefore (batches_from 16 bs)
 all_before bs = All-from_recursion IsBefore (batches_from 16 bs) (before_from 16 bs)
+
+-- ---- what is recovered
+
+pub before_all : (bytes : List ℕ) (commits : ℕ) (read : List Batch) → AreBatches bytes commits read → All IsBefore read
+before_all bytes commits read are = subst (λ (bs : List Batch). All IsBefore bs) (sym are.batches_are) (all_before are.journal.front.batches)
+
+pub recovered : (bytes : List ℕ) (commits : ℕ) (read : List Batch) (entries : List Kept) → AreBatches bytes commits read → entries ≡ kept (founds_read read) → IsRecovered bytes commits entries
+recovered bytes commits read entries are is = record {
+  txns = are.txns;
+  journal = are.journal;
+  commits_are = are.commits_are;
+  entries_are = is ∙ ap (λ (bs : List Batch). kept (founds_read bs)) are.batches_are ∙ ap kept (read_as are.journal.front.batches);
+}

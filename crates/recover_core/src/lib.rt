@@ -1,6 +1,7 @@
 //! What a journal still holds: the entries that were put and are not gone.
 #![tactic(auto)]
 
+pub mod contents;
 mod kept;
 mod keys;
 pub mod laws;
