@@ -4,3 +4,4 @@ pub mod Telling
 pub mod Counting
 pub mod Row25
 pub mod Following
+pub mod Closing

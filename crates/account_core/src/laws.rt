@@ -1,5 +1,5 @@
 //! Laws on accounts. No program needs to call them: each has its laws as its contract.
-ghost use Rattle.account_core.specs.Laws.{AccountTold, CarryFrees, CarryKeeps, DequeuedOnce, GotCounts, LogTold, OneState, PhasesAppend, TextAppend};
+ghost use Rattle.account_core.specs.Laws.{AccountTold, CarryFrees, CarryKeeps, ClosedPlayed, DequeuedOnce, GotCounts, LogTold, OneState, PhasesAppend, TextAppend};
 ghost use Rattle.account_core.specs.Last.{LastTouch};
 ghost use Rattle.account_core.specs.Row25.{Row25Runs, Row25Text};
 
@@ -21,6 +21,11 @@ pub fn deliveries()
 pub fn texts()
     ensures log { LogTold }
     ensures account { AccountTold }
+{}
+
+/// What the passes of a queue tell of its phase, when they were joined and it was closed.
+pub fn queues()
+    ensures { ClosedPlayed }
 {}
 
 /// Phases, one after the other.
