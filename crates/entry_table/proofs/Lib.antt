@@ -28,3 +28,4 @@ pub mod Giving
 pub mod Bringing
 pub mod Sighting
 pub mod Following
+pub mod Later
