@@ -4,6 +4,7 @@
 #![tactic(auto)]
 
 mod carried;
+mod changes;
 mod depths;
 mod draft;
 mod draws;
@@ -22,6 +23,7 @@ mod states;
 mod tails;
 mod view;
 
+pub use changes::Exchanged;
 pub use draft::{Draft, Drawn, Linking};
 pub use entries::Entries;
 pub use pass::Pass;
