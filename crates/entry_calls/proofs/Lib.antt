@@ -2,3 +2,4 @@ pub mod Changes
 pub mod Replying
 pub mod Dequeuing
 pub mod Naming
+pub mod Depthing

@@ -1,5 +1,6 @@
 -- looking for a row by its id
-use Rattle.std.proofs.Common.{◌≡◌, ◌≢◌, ℕ, suc, ◌+◌, ◌-◌, ◌<◌, ◌≤◌, Bool, true, false, Option, Some, None, List, [], ◌∷◌, ◌++◌, refl, sym, ap, ◌∙◌, subst, arith}
+use Rattle.std.proofs.Common.{◌≡◌, ◌≢◌, ℕ, suc, ◌+◌, ◌-◌, ◌<◌, ◌≤◌, Bool, true, false, Option, Some, None, List, [], ◌∷◌, ◌++◌, refl, sym, ap, ◌∙◌, subst, ⊎_elim, not, nat_eq, eq-eqb, ne_eqb, arith}
+use Rattle.std.proofs.lemmas.Bool.{cases_eq}
 use mathlib.Core.List.{IsPrefix}
 use Rattle.queue_model.specs.declared.queues.Queue.{Queue}
 use Rattle.queue_model.specs.declared.rows.Row.{Row}
@@ -118,6 +119,13 @@ module _ (old mid new : Pass) (id row n : ℕ) (y : Row) (k : Kept old mid) (a :
           there = λ gone. live (state_told (after (opening new) (seen new)) row n r.0 shows' r.1 ∙ ap pack_state gone);
         };
       }
+
+-- by the state word that was shown
+pub named_by : (old new : Sight) (id row n w : ℕ) → w ≡ 3 → (n ≡ 3 → Misses old new (Named id) row) → (n ≢ 3 → Spotted old new id row) → Spots old new id row (not (nat_eq n w))
+named_by old new id row n w e miss hit = ⊎_elim
+    (λ (same : n ≡ w). subst (λ (b : Bool). Spots old new id row (not b)) (sym (eq-eqb n w same)) (miss (same ∙ e)))
+    (λ (other : n ≢ w). subst (λ (b : Bool). Spots old new id row (not b)) (sym (ne_eqb n w other)) (hit (λ k. other (k ∙ sym e))))
+    (cases_eq n w)
 
 -- A walk comes to the row
 
