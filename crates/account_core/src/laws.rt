@@ -1,6 +1,7 @@
 //! Laws on accounts. No program needs to call them: each has its laws as its contract.
 ghost use Rattle.account_core.specs.Laws.{AccountTold, CarryFrees, CarryKeeps, ClosedPlayed, DequeuedOnce, GotCounts, LogTold, OneState, PhasesAppend, TextAppend};
 ghost use Rattle.account_core.specs.Last.{LastTouch};
+ghost use Rattle.account_core.specs.Served.{StoryServes};
 ghost use Rattle.account_core.specs.Row25.{Row25Runs, Row25Text};
 
 /// What no history has: an entry with two holders, or one that is dequeued twice; and how a row came into its state.
@@ -21,6 +22,11 @@ pub fn deliveries()
 pub fn texts()
     ensures log { LogTold }
     ensures account { AccountTold }
+{}
+
+/// What an actor's lines hand to the targets of consumers.
+pub fn targets()
+    ensures { StoryServes }
 {}
 
 /// What the passes of a queue tell of its phase, when they were joined and it was closed.
