@@ -6,3 +6,4 @@ pub mod Row25
 pub mod Following
 pub mod Closing
 pub mod Serving
+pub mod Ending

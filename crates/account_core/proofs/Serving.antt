@@ -29,12 +29,13 @@ grew_then : (c n m : ℕ) (a b e : Option Seat) → Grew c n a b → Grew c m b 
 grew_then c n m a b None p q = tt
 grew_then c n m a None (Some t) p q = absurd q
 grew_then c n m None (Some s) (Some t) p q = absurd p
-grew_then c n m (Some r) (Some s) (Some t) p q =
-    (p.0 ++ q.0,
-     q.1 ∙ ap (λ (xs : List Delivery). xs ++ q.0) p.1 ∙ append_assoc r.deliveries p.0 q.0,
-     length-append p.0 q.0 ∙ ap₂ (λ (x y : ℕ). x + y) p.2 q.2,
-     all_append c p.0 q.0 p.3 q.3,
-     q.4 ∙ p.4)
+grew_then c n m (Some r) (Some s) (Some t) p q = (
+  p.0 ++ q.0,
+  q.1 ∙ ap (λ (xs : List Delivery). xs ++ q.0) p.1 ∙ append_assoc r.deliveries p.0 q.0,
+  length-append p.0 q.0 ∙ ap₂ (λ (x y : ℕ). x + y) p.2 q.2,
+  all_append c p.0 q.0 p.3 q.3,
+  q.4 ∙ p.4,
+)
 
 same_seats : (c : ℕ) (old new : Seats) → new ≡ old → Grew c 0 (seat_at old c) (seat_at new c)
 same_seats c old new same = subst (λ (x : Seats). Grew c 0 (seat_at old c) (seat_at x c)) (sym same) (grew_none c (seat_at old c))
@@ -65,8 +66,10 @@ handed_grew seats d c x del there to = by_consumer (cases_eq d c) where
   at_d : Grew d 1 (seat_at seats d) (seat_at (slice_set seats d (Some (served x del))) d)
   at_d = subst (λ (o : Option Seat). Grew d 1 o (seat_at (slice_set seats d (Some (served x del))) d)) (sym there)
       (subst (λ (o : Option Seat). Grew d 1 (Some x) o) (sym (set_here seats d x (Some (served x del)) there)) (del ∷ [], refl, refl, (to, tt), refl))
+
   here : Grew d (if d == d then 1 else 0) (seat_at seats d) (seat_at (slice_set seats d (Some (served x del))) d)
   here = rw (eq-eqb d d refl) at_d
+
   by_consumer : (d ≡ c) ⊎ (d ≢ c) → Grew c (if d == c then 1 else 0) (seat_at seats c) (seat_at (slice_set seats d (Some (served x del))) c)
   by_consumer (inl e) = subst (λ (k : ℕ). Grew k (if d == k then 1 else 0) (seat_at seats k) (seat_at (slice_set seats d (Some (served x del))) k)) e here
   by_consumer (inr other) = rw (ne_eqb d c other) (subst (λ (o : Option Seat). Grew c 0 (seat_at seats c) o) (sym (set_other seats d c (Some (served x del)) other)) (grew_none c (seat_at seats c)))

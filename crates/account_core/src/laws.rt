@@ -1,6 +1,7 @@
 //! Laws on accounts. No program needs to call them: each has its laws as its contract.
 ghost use Rattle.account_core.specs.Laws.{AccountTold, CarryFrees, CarryKeeps, ClosedPlayed, DequeuedOnce, GotCounts, LogTold, OneState, PhasesAppend, TextAppend};
 ghost use Rattle.account_core.specs.Last.{LastTouch};
+ghost use Rattle.account_core.specs.Runs.{NoneRan};
 ghost use Rattle.account_core.specs.Served.{StoryServes};
 ghost use Rattle.account_core.specs.Row25.{Row25Runs, Row25Text};
 
@@ -38,6 +39,7 @@ pub fn queues()
 pub fn runs()
     ensures phases { PhasesAppend }
     ensures text { TextAppend }
+    ensures none { NoneRan }
 {}
 
 /// An account of two phases with a rest between them: its text, and that it is one.
