@@ -30,8 +30,8 @@ joined_makes build opening h history calls j =
 
 pub closed_played : (q : ℕ) (stories : List Story) (build : Build) (opening : Queue) (history : List Deed) → IsClosed q stories build opening history → IsPlayed q stories (record { plan = plan_of build opening; history = history })
 closed_played q stories build opening history closed = record {
-    legal = closed.legal;
-    callers = closed.callers;
-    makes = λ i s there. joined_makes build opening (i + 1) history _ (closed.passes i s there);
-    rests = closed.rests;
+  legal = closed.legal;
+  callers = closed.callers;
+  makes = λ i s there. joined_makes build opening (i + 1) history _ (closed.passes i s there);
+  rests = closed.rests;
 }

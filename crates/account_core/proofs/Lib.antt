@@ -5,3 +5,5 @@ pub mod Counting
 pub mod Row25
 pub mod Following
 pub mod Closing
+pub mod Serving
+pub mod Ending
