@@ -1,5 +1,5 @@
 -- one exchange of a row's state
-use Rattle.std.proofs.Common.{◌≡◌, ◌≢◌, ℕ, ◌+◌, ◌<◌, ◌≤◌, ◌==◌, ◌&&◌, Bool, true, false, Option, Some, None, List, [], ◌∷◌, ◌++◌, refl, sym, ap, ap₂, ◌∙◌, subst, ⊎_elim, append_assoc, append-nil, eq-eqb, ne_eqb, arith}
+use Rattle.std.proofs.Common.{◌≡◌, ◌≢◌, ℕ, ◌+◌, ◌<◌, ◌≤◌, ◌==◌, ◌&&◌, Bool, true, false, Ok, Err, Option, Some, None, List, [], ◌∷◌, ◌++◌, refl, sym, ap, ap₂, ◌∙◌, subst, ⊎_elim, append_assoc, append-nil, eq-eqb, ne_eqb, arith}
 use Rattle.std.specs.Int.{bit_at}
 use Rattle.std.specs.Option.{option_map}
 use mathlib.Core.List.{IsPrefix}
@@ -26,12 +26,10 @@ use Rattle.acts_core.specs.Moments.{HandsOut}
 use Rattle.acts_core.specs.Owed.{is_available, is_free}
 use Rattle.acts_core.specs.Sight.{Sight}
 use Rattle.acts_core.specs.Steps.{Stepped, NoHeads}
-use Rattle.acts_core.specs.Walks.{FreeTo, Ready}
+use Rattle.acts_core.specs.Walks.{FreeTo, Ready, Misses}
 use Rattle.acts_core.proofs.Sparing.{after_rest}
 use Rattle.acts_core.proofs.Stepping.{stepped_trans, rights_trans, no_head-append}
 use Rattle.entry_table.specs.declared.pass.Pass.{Pass}
-use Rattle.entry_table.specs.declared.states.Exchanged.{Exchanged}
-use Rattle.entry_table.specs.declared.states.Exchanged.TheVariants.{Done, Shown as ShownState}
 use Rattle.entry_table.specs.declared.view.View.{View}
 use Rattle.entry_table.specs.Passes.{Kept, Did, view, opening, seen, shown, allowance, share, callers, consumers}
 use Rattle.entry_table.specs.Plays.{Taking, Steps, Went, Shows}
@@ -39,13 +37,13 @@ use Rattle.entry_table.specs.Rule.{Carries}
 use Rattle.entry_table.specs.Sights.{sight}
 use Rattle.entry_table.specs.Views.{entry, caller_of}
 use Rattle.entry_table.proofs.Sighting.{stepped, same_rights}
-use Rattle.cursor_core.specs.Takes.{Acquires, Misses, TakesReady, AcquiresFree, TakesFree}
+use Rattle.cursor_core.specs.Takes.{Acquires, TakesReady, AcquiresFree, TakesFree}
 
 mine : (old : Pass) → caller_of (callers old) ≡ old.caller
 mine old = ap caller_of old.speaks
 
 -- the exchange hit
-pub acquired : {C : Type 0} (load : C → Load) (old new : Pass) (row : ℕ) (c : C) → Kept old new → allowance new ≡ allowance old → share new ≡ share old → Taking load row changes.Acq Available (view old) (view new) (Done (Some c)) → Acquires (sight old) (sight new) row (load c)
+pub acquired : {C : Type 0} (load : C → Load) (old new : Pass) (row : ℕ) (c : C) → Kept old new → allowance new ≡ allowance old → share new ≡ share old → Taking load row changes.Acq Available (view old) (view new) (Ok c) → Acquires (sight old) (sight new) row (load c)
 acquired load old new row c k a s t =
     let u = t.0 in
     let x = t.1 in
@@ -88,7 +86,7 @@ other_state (Unlocked h) ne = refl
 other_state Dequeued ne = refl
 other_state Deleted ne = refl
 
-pub missed : {C : Type 0} (load : C → Load) (old new : Pass) (row : ℕ) (s : RowState) → Kept old new → allowance new ≡ allowance old → share new ≡ share old → Taking load row changes.Acq Available (view old) (view new) (ShownState s None) → Misses (sight old) (sight new) Ready row
+pub missed : {C : Type 0} (load : C → Load) (old new : Pass) (row : ℕ) (s : RowState) → Kept old new → allowance new ≡ allowance old → share new ≡ share old → Taking load row changes.Acq Available (view old) (view new) (Err s) → Misses (sight old) (sight new) Ready row
 missed load old new row s k a sh t =
     let me = mine old in
     let one : Tried = entry (steps.State row changes.Acq Available) (pack_state s) (pack_state s) (seen new) in
@@ -106,15 +104,6 @@ missed load old new row s k a sh t =
           let same : x ≡ t.state.0 = cc in
           ap (λ (z : Row). is_available z.state) same ∙ ap is_available t.state.2 ∙ other_state s t.other;
     }
-
--- by the answer
-pub takes_ready : {C : Type 0} (load : C → Load) (old new : Pass) (row : ℕ) (o : Option C) → Kept old new → allowance new ≡ allowance old → share new ≡ share old → Taking load row changes.Acq Available (view old) (view new) (Done o) → TakesReady (sight old) (sight new) row (option_map load o)
-takes_ready {C} load old new row None k a s t = absurd t
-takes_ready {C} load old new row (Some c) k a s t = acquired load old new row c k a s t
-
-pub shows_ready : {C : Type 0} (load : C → Load) (old new : Pass) (row : ℕ) (s : RowState) (o : Option C) → Kept old new → allowance new ≡ allowance old → share new ≡ share old → Taking load row changes.Acq Available (view old) (view new) (ShownState s o) → TakesReady (sight old) (sight new) row None
-shows_ready {C} load old new row s None k a sh t = missed load old new row s k a sh t
-shows_ready {C} load old new row s (Some c) k a sh t = absurd t
 
 -- Masks
 

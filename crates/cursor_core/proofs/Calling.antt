@@ -1,5 +1,6 @@
 -- a call over all lists
-use Rattle.std.proofs.Common.{◌≡◌, ◌≢◌, ℕ, zero, suc, ◌+◌, ◌-◌, ◌<◌, ◌≤◌, Option, Some, None, List, [], ◌∷◌, refl, sym, ap, ◌∙◌, subst, arith}
+use Rattle.std.proofs.Common.{◌≡◌, ◌≢◌, ℕ, true, zero, suc, ◌+◌, ◌-◌, ◌<◌, ◌≤◌, Option, Some, None, List, [], ◌∷◌, refl, sym, ap, ◌∙◌, subst, arith}
+use Rattle.std.specs.Prelude.{IfSome}
 use Rattle.queue_model.specs.declared.deeds.Act.TheVariants.{Acq}
 use Rattle.queue_model.specs.declared.queues.Queue.{Queue}
 use Rattle.queue_model.specs.declared.rows.Row.{Row}
@@ -15,50 +16,15 @@ use Rattle.acts_core.specs.Owed.{is_free}
 use Rattle.acts_core.specs.Sight.{Sight, silent_lists}
 use Rattle.acts_core.specs.Walks.{Ask, FreeTo, Ready, Ended, Done, Stopped}
 use Rattle.acts_core.proofs.Answering.{next_empty, next_got, oldest_empty, oldest_got}
-use Rattle.acts_core.proofs.Walking.{done_down, done_up, done_got}
+use Rattle.acts_core.proofs.Coming.{from_pred}
+use Rattle.acts_core.proofs.Walking.{done_none, done_down, done_up, done_got}
 use Rattle.queue_model.proofs.Prefixes.{prefix_trans}
 use Rattle.entry_table.specs.declared.entries.Entries.{Entries}
 use Rattle.entry_table.specs.declared.pass.Pass.{Pass}
+use Rattle.entry_table.specs.declared.view.Shape.{Shape}
 use Rattle.entry_table.specs.Passes.{IsPassOf, Kept, view, opening, seen}
 use Rattle.entry_table.specs.Sights.{sight, Serves}
 use Rattle.cursor_core.specs.Takes.{GotReady, GotFree}
-
--- Passes
-
-pub kept_same : (p : Pass) → Kept p p
-kept_same p = record { table = refl; caller = refl; shape = refl; opening = refl; callers = refl; made = refl; consumers = refl }
-
-pub kept_trans : (a b c : Pass) → Kept a b → Kept b c → Kept a c
-kept_trans a b c k l = record {
-  table = l.table ∙ k.table;
-  caller = l.caller ∙ k.caller;
-  shape = l.shape ∙ k.shape;
-  opening = l.opening ∙ k.opening;
-  callers = l.callers ∙ k.callers;
-  made = l.made ∙ k.made;
-  consumers = l.consumers ∙ k.consumers;
-}
-
-pub pass_of : {C : Type 0} (e : Entries C) (old new : Pass) → IsPassOf e old → Kept old new → IsPassOf e new
-pass_of e old new s k = record { table = k.table ∙ s.table; shape = k.shape ∙ s.shape }
-
-pub served : {C : Type 0} (e : Entries C) (old new : Pass) → Serves e old → Kept old new → Legal (opening old) (seen new) → Serves e new
-served e old new s k legal = record {
-  pass = pass_of e old new s.pass k;
-  legal = subst (λ (o : Queue). Legal o (seen new)) (sym k.opening) legal;
-  opening = subst IsOpening (sym k.opening) s.opening;
-}
-
--- Lists
-
-from_pred : (l : ℕ) → 0 < l → suc (l - 1) ≡ l
-from_pred zero some = absurd (omega (arith, some))
-from_pred (suc k) some = omega arith
-
--- a list less is left
-pub less_left : (old now new : Sight) (ask : Ask) (l high : ℕ) → 0 < l → l ≤ high → Done old now ask l high → Ended now new ask (l - 1) → Done old new ask (l - 1) high
-less_left old now new ask l high some low d e =
-    done_down old now new ask (l - 1) high (omega (arith, some, low)) (subst (λ (n : ℕ). Done old now ask n high) (sym (from_pred l some)) d) e
 
 -- what a later part of the call got, the call got
 gets_from : (old now new : Sight) (ask : Ask) (low high r l : ℕ) (load : Load) (Fits : Row → Type 0) → Done old now ask low high → Gets now.opening now.caller now.seen new.seen r l load Fits → Gets old.opening old.caller old.seen new.seen r l load Fits

@@ -1,3 +1,3 @@
 pub mod Acquiring
-pub mod Coming
+pub mod Getting
 pub mod Calling

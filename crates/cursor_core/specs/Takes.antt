@@ -7,14 +7,13 @@ use Rattle.queue_model.specs.declared.rows.Row.{Row}
 use Rattle.queue_model.specs.declared.rows.RowState.TheVariants.{Available}
 use Rattle.queue_model.specs.declared.steps.Tried.{Tried}
 use Rattle.queue_model.specs.History.{after, deed}
-use Rattle.queue_model.specs.State.{row_at}
 use Rattle.acts_core.specs.Lists.{Gets}
 use Rattle.acts_core.specs.Load.{Load}
 use Rattle.acts_core.specs.Moments.{HandsOut}
 use Rattle.acts_core.specs.Owed.{is_free}
 use Rattle.acts_core.specs.Sight.{Sight}
 use Rattle.acts_core.specs.Steps.{Stepped, SameRights, NoHeads}
-use Rattle.acts_core.specs.Walks.{Ask, FreeTo, Ready, Fails, Ended, Reached}
+use Rattle.acts_core.specs.Walks.{FreeTo, Ready, Misses, Ended, Reached}
 
 -- row r was acquired by the last deed that was seen: it was available just before, and its cargo was handed out
 pub record Acquires (old new : Sight) (r : ℕ) (load : Load) : Type 0 where
@@ -27,14 +26,6 @@ pub record Acquires (old new : Sight) (r : ℕ) (load : Load) : Type 0 where
   pub whole : moment ++ deed old.caller (Acq r) ∷ [] ≡ new.seen
   pub hands : HandsOut (after old.opening moment) r load
   pub ready : hands.row.state ≡ Available
-
--- row r was not what is asked for in the state that is then known
-pub record Misses (old new : Sight) (ask : Ask) (r : ℕ) : Type 0 where
-  pub added : List Tried
-  pub steps : Stepped old new [] added
-  pub rights : SameRights old new
-  pub heads : NoHeads added
-  pub fails : (x : Row) → row_at (after old.opening new.seen) r ≡ Some x → Fails ask x
 
 -- an available row was acquired, or it was not available
 abbrev pub TakesReady : Sight → Sight → ℕ → Option Load → Type 0

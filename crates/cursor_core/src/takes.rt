@@ -9,17 +9,22 @@ ghost use Rattle.entry_table.specs.Sights.{sight};
 ghost use Rattle.cursor_core.specs.Takes.{TakesReady, TakesFree};
 
 use acts_core::Freight;
-use entry_table::{Entries, Exchanged, Pass};
+use entry_table::{Entries, Pass};
 use queue_model::{Change, DraftWord, RowState, WordName};
 
 // Whether a mask has the bit of a consumer.
 fn wants(mask: u64, consumer: u32) -> bool
     ensures { IsTrue result ↔ (bit_at mask consumer ≡ 1) }
 {
-    consumer < 64 && (mask >> consumer) & 1 == 1
+    if consumer < 64 {
+        (mask >> consumer) & 1 == 1
+    } else {
+        false
+    }
 }
 
-/// Acquires a row if it is available: one exchange of its state.
+/// Acquires a row if it is available: one exchange of its state, which hands out no cargo where it shows
+/// another.
 pub(crate) fn take_ready<C: Freight>(entries: &Entries<C>, pass: &mut Pass, row: u64) -> Option<C>
     requires table { IsPassOf entries.now pass.old }
     requires known { (x : Row) × (row_at (state pass.old) row ≡ Some x) }
@@ -27,8 +32,8 @@ pub(crate) fn take_ready<C: Freight>(entries: &Entries<C>, pass: &mut Pass, row:
     ensures takes { TakesReady (sight pass.old) (sight pass.new) row (option_map C.goods result) }
 {
     match entries.take_row(pass, row, Change::Acq, RowState::Available) {
-        Exchanged::Done(cargo) => cargo,
-        Exchanged::Shown(_, _) => None,
+        Ok(cargo) => Some(cargo),
+        Err(_) => None,
     }
 }
 

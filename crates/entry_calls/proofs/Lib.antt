@@ -4,3 +4,5 @@ pub mod Dequeuing
 pub mod Running
 pub mod Turning
 pub mod Putting
+pub mod Naming
+pub mod Depthing

@@ -31,10 +31,10 @@ rows_more q x = filter-append (is_of_list x.slip.list) q.rows (x ∷ []) ∙ ap 
 rows_other : (q : Queue) (x : Row) (l : ℕ) → x.slip.list ≢ l → rows_of (laid q x) l ≡ rows_of q l
 rows_other q x l ne = filter-append (is_of_list l) q.rows (x ∷ []) ∙ ap (λ (z : List Row). rows_of q l ++ z) (cond-false (eqb x.slip.list l) (x ∷ []) [] (ne_eqb x.slip.list l ne)) ∙ append-nil (rows_of q l)
 
-list_is : (q : Queue) (r : ℕ) (x : Row) → row_at q r ≡ Some x → list_at q r ≡ x.slip.list
+pub list_is : (q : Queue) (r : ℕ) (x : Row) → row_at q r ≡ Some x → list_at q r ≡ x.slip.list
 list_is q r x found = ap (λ (o : Option Row). option_map_or (λ (z : Row). z.slip.list) o 0) found
 
-place_is : (q : Queue) (r l : ℕ) → list_at q r ≡ l → place_at q r ≡ position_or_len (is_row r) (rows_of q l)
+pub place_is : (q : Queue) (r l : ℕ) → list_at q r ≡ l → place_at q r ≡ position_or_len (is_row r) (rows_of q l)
 place_is q r l e = ap (λ (k : ℕ). position_or_len (is_row r) (rows_of q k)) e
 
 -- the list of the new row ends with it

@@ -20,6 +20,7 @@ pub mod Opening
 pub mod Counting
 pub mod Closing
 pub mod Leaving
+pub mod Remaining
 pub mod Exchanging
 pub mod Outs
 pub mod Tailing
@@ -27,3 +28,4 @@ pub mod Giving
 pub mod Bringing
 pub mod Sighting
 pub mod Following
+pub mod Later

@@ -14,17 +14,14 @@ use queue_model::{Node, WordName};
 pub fn node_of(list: u32, stop: u64) -> Node
     ensures { result ≡ node_at list stop }
 {
-    if stop == 0 { Node::Head(list) } else { Node::Row(stop - 1) }
+    if stop == 0 {
+        Node::Head(list)
+    } else {
+        Node::Row(stop - 1)
+    }
 }
 
 impl<C: Freight> Entries<C> {
-    /// How many lists the table has.
-    pub fn lists(&self) -> u32
-        ensures { result ≡ self.now.shape.lists }
-    {
-        self.shape.lists
-    }
-
     /// The row that the link behind a stop of a list names, as the only step; none where it is empty. A stop
     /// is 0 for the head of the list, and a number more than a row's for that row. No row is skipped but
     /// deleted ones.

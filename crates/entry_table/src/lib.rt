@@ -4,6 +4,7 @@
 #![tactic(auto)]
 
 mod carried;
+mod changes;
 mod depths;
 mod draft;
 mod draws;
@@ -22,8 +23,12 @@ mod states;
 mod tails;
 mod view;
 
+pub use changes::Exchanged;
 pub use draft::{Draft, Drawn, Linking};
 pub use entries::Entries;
 pub use follows::node_of;
 pub use pass::Pass;
 pub use view::{Drawing, Ruling, Shape, Told, View};
+
+#[cfg(test)]
+mod tests;

@@ -1,27 +1,13 @@
--- a walk of one list comes to a row, tries it, and goes on
-use Rattle.std.proofs.Common.{◌≡◌, ◌≢◌, ℕ, true, suc, ◌+◌, ◌-◌, ◌<◌, ◌≤◌, Option, Some, None, List, [], ◌∷◌, ◌++◌, refl, sym, ap, ◌∙◌, subst, append-nil, arith}
+-- a walk of one list comes to a row, tries it, and goes on; and then the lists, one after the other
+use Rattle.std.proofs.Common.{◌≡◌, ◌≢◌, ℕ, zero, suc, ◌+◌, ◌-◌, ◌<◌, ◌≤◌, Option, Some, None, List, [], ◌∷◌, refl, sym, ap, ◌∙◌, subst, arith}
 use mathlib.Core.List.{IsPrefix}
-use Rattle.queue_model.specs.declared.deeds.Act.TheVariants.{Acq}
-use Rattle.queue_model.specs.declared.deeds.Deed.{Deed}
 use Rattle.queue_model.specs.declared.queues.Queue.{Queue}
 use Rattle.queue_model.specs.declared.rows.Row.{Row}
-use Rattle.queue_model.specs.declared.rows.RowState.TheVariants.{Available, Locked}
-use Rattle.queue_model.specs.declared.rows.Slip.{Slip}
-use Rattle.queue_model.specs.History.{after, deed}
+use Rattle.queue_model.specs.History.{after, Legal}
 use Rattle.queue_model.specs.State.{row_at, place_at}
-use Rattle.queue_model.specs.Laws.{SameGoods}
-use Rattle.queue_model.proofs.Prefixes.{prefix_trans}
-use Rattle.queue_model.proofs.Stable.{row_stays}
-use Rattle.acts_core.specs.Lists.{Gets}
-use Rattle.acts_core.specs.Load.{Load}
-use Rattle.acts_core.specs.Moments.{JustBefore, HandsOut}
-use Rattle.acts_core.specs.Owed.{is_free}
 use Rattle.acts_core.specs.Sight.{Sight}
-use Rattle.acts_core.specs.Steps.{Stepped}
-use Rattle.acts_core.specs.Walks.{Ask, FreeTo, Ready, FollowsTo, IsOfList, Facing, Ended, Faces}
-use Rattle.acts_core.proofs.Sparing.{after_rest}
-use Rattle.acts_core.proofs.Walking.{walk_first, walk_on, walk_got, list_later, place_later}
-use Rattle.cursor_core.specs.Takes.{Acquires, Misses, TakesReady, AcquiresFree, TakesFree, GotReady, GotFree}
+use Rattle.acts_core.specs.Walks.{Ask, FollowsTo, IsOfList, Misses, Facing, Ended, Faces, Done}
+use Rattle.acts_core.proofs.Walking.{walk_on, list_later, place_later, done_none, done_down}
 
 pub facing : (old now : Sight) (ask : Ask) (l r : ℕ) (next : Option ℕ) → Faces old now ask l next → next ≡ Some r → Facing old now ask l r
 facing old now ask l r None f is = absurd (cc)
@@ -31,10 +17,10 @@ pub ended : (old now : Sight) (ask : Ask) (l : ℕ) (next : Option ℕ) → Face
 ended old now ask l None f is = f
 ended old now ask l (Some q) f is = absurd (cc)
 
-opening_of : (old now : Sight) (ask : Ask) (l r : ℕ) → Facing old now ask l r → now.opening ≡ old.opening
+pub opening_of : (old now : Sight) (ask : Ask) (l r : ℕ) → Facing old now ask l r → now.opening ≡ old.opening
 opening_of old now ask l r f = ap (λ (v : Sight). v.opening) f.walking.steps.rest
 
-caller_of : (old now : Sight) (ask : Ask) (l r : ℕ) → Facing old now ask l r → now.caller ≡ old.caller
+pub caller_of : (old now : Sight) (ask : Ask) (l r : ℕ) → Facing old now ask l r → now.caller ≡ old.caller
 caller_of old now ask l r f = ap (λ (v : Sight). v.caller) f.walking.steps.rest
 
 -- the row that the walk has come to is there
@@ -86,38 +72,17 @@ smaller rows old now mid last ask l r next (Some q) f is m g low =
     let second' : place_at (after last.opening last.seen) q ≡ place_at (after mid.opening last.seen) q = ap (λ (o : Queue). place_at (after o last.seen) q) to_last in
     subst (λ (o : Option ℕ). left rows (after last.opening last.seen) (Some q) < left rows (after now.opening now.seen) o) (sym is) (omega (arith, first', second, second', low))
 
--- The row is acquired
+-- Lists
 
-gets_row : (old now new : Sight) (ask : Ask) (l r : ℕ) (load : Load) (Fits : Row → Type 0) (k : Facing old now ask l r) (a : Acquires now new r load) → Fits a.hands.row → Gets old.opening old.caller old.seen new.seen r l load Fits
-gets_row old now new ask l r load Fits k a fits =
-    let o = old.opening in
-    let opening = opening_of old now ask l r k in
-    let caller = caller_of old now ask l r k in
-    let whole : a.moment ++ deed old.caller (Acq r) ∷ [] ≡ new.seen = subst (λ (h : ℕ). a.moment ++ deed h (Acq r) ∷ [] ≡ new.seen) caller a.whole in
-    let found : row_at (after o a.moment) r ≡ Some a.hands.row = subst (λ (p : Queue). row_at (after p a.moment) r ≡ Some a.hands.row) opening a.hands.found in
-    let t = list_later o now.seen a.moment l r a.later k.there in
-    let both : Some t.0 ≡ Some a.hands.row = sym t.1 ∙ found in
-    let same : t.0 ≡ a.hands.row = cc in
-    record {
-      moment = a.moment;
-      before = record { later = prefix_trans old.seen now.seen a.moment k.walking.steps.grows a.later; early = ([], append-nil (a.moment ++ deed old.caller (Acq r) ∷ []) ∙ whole) };
-      hands = record { row = a.hands.row; found = found; same = a.hands.same };
-      list = ap (λ (x : Row). x.slip.list) (sym same) ∙ t.2;
-      fits = fits;
-    }
+-- nothing is walked yet
+pub none_done : (old : Sight) (ask : Ask) (l : ℕ) → Legal old.opening old.seen → l ≡ old.opening.lists → Done old old ask l old.opening.lists
+none_done old ask l legal all = subst (λ (n : ℕ). Done old old ask n old.opening.lists) (sym all) (done_none old ask old.opening.lists legal)
 
-pub got_ready : (old now new : Sight) (l r : ℕ) (load : Load) (next : Option ℕ) → Faces old now Ready l next → next ≡ Some r → Acquires now new r load → GotReady old new l r load
-got_ready old now new l r load next f is a =
-    let k = facing old now Ready l r next f is in
-    record {
-      reached = walk_got old now new Ready l r (Acq r ∷ []) a.added k a.steps a.rights a.heads;
-      gets = gets_row old now new Ready l r load (λ x. x.state ≡ Available) k a a.ready;
-    }
+pub from_pred : (l : ℕ) → 0 < l → suc (l - 1) ≡ l
+from_pred zero some = absurd (omega (arith, some))
+from_pred (suc k) some = omega arith
 
-pub got_free : (old now new : Sight) (c l r : ℕ) (load : Load) (next : Option ℕ) → Faces old now (FreeTo c) l next → next ≡ Some r → AcquiresFree now new c r load → GotFree old new c l r load
-got_free old now new c l r load next f is a =
-    let k = facing old now (FreeTo c) l r next f is in
-    record {
-      reached = walk_got old now new (FreeTo c) l r (Acq r ∷ []) a.acquires.added k a.acquires.steps a.acquires.rights a.acquires.heads;
-      gets = gets_row old now new (FreeTo c) l r load (λ x. is_free c x ≡ true) k a.acquires a.free;
-    }
+-- a list less is left
+pub less_left : (old now new : Sight) (ask : Ask) (l high : ℕ) → 0 < l → l ≤ high → Done old now ask l high → Ended now new ask (l - 1) → Done old new ask (l - 1) high
+less_left old now new ask l high some low d e =
+    done_down old now new ask (l - 1) high (omega (arith, some, low)) (subst (λ (n : ℕ). Done old now ask n high) (sym (from_pred l some)) d) e
