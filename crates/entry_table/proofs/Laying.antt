@@ -117,10 +117,6 @@ just_drawn v w row d =
 
 -- Nodes
 
-pub node_suc : (l w : ℕ) → w ≢ 0 → node_of l w ≡ nodes.Row (w - 1)
-node_suc l zero some = absurd (some refl)
-node_suc l (suc r) some = let e : suc r - 1 ≡ r = omega arith in ap nodes.Row (sym e)
-
 -- a reservation leaves rows as they are
 known_reserving : (q : Queue) (h size : ℕ) (node : Node) → IsKnown q node → IsKnown (reserving q h size) node
 known_reserving q h size (nodes.Head l) known = known
@@ -184,9 +180,6 @@ module _ {C : Type 0} (load : C → Load) where
 
     alone_3 : v3.alone ≡ true
     alone_3 = ap (λ (z : View). z.alone) t.view ∙ alone_2
-
-    opening_3 : v3.opening ≡ v.opening
-    opening_3 = ap (λ (z : View). z.opening) t.view ∙ (ap (λ (z : View). z.opening) d.view ∙ ap (λ (z : View). z.opening) r.view)
 
     callers_3 : v3.callers ≡ v.callers
     callers_3 = ap (λ (z : View). z.callers) t.view ∙ (ap (λ (z : View). z.callers) d.view ∙ ap (λ (z : View). z.callers) r.view)

@@ -29,10 +29,6 @@ use Rattle.entry_table.specs.Plays.{looked, looked_view}
 use Rattle.entry_table.proofs.Frames.{sum_views, drafts_set, takes_set, away_set}
 use Rattle.entry_table.proofs.Keeping.{Same, opened, now, me, drawn_low, sees_all, ruled_next, went}
 
--- what a record update leaves
-pub same_self : (v : View) → Same v v
-same_self v = record { shape = refl; opening = refl; callers = refl; made = refl; alone = refl; consumers = refl }
-
 module _ {C : Type 0} (load : C → Load) (shape : Shape) where
   module _ (s : State (Option C) View) (id : ℕ) (v : View) (h : ℕ) (ended : List ℕ) (is : v.callers ≡ h ∷ ended) (at : get_elem? s.views id ≡ maybe.some v) (r : RuledAt load shape v.opening s) where
     -- a step that leaves all drafts and slots as they are
