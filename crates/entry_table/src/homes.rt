@@ -128,6 +128,7 @@ impl<C: Freight> Entries<C> {
         ensures kept { Kept pass.old pass.new }
         ensures rights { (allowance pass.new ≡ allowance pass.old) × (share pass.new ≡ share pass.old) × (drawn pass.new ≡ drawn pass.old) }
         ensures did { Did pass.old pass.new (acts.Del row ∷ []) }
+        ensures changed { (x : Row) × DidChange (view pass.old) (view pass.new) row changes.Del Dequeued None (acts.Del row) x }
         ensures shown { shown pass.new ≡ shown pass.old ++ entry (steps.State row changes.Del Dequeued) (pack_state Dequeued) (pack_state Deleted) (seen pass.new) ∷ [] }
     {
         let mut seat = mem::replace(&mut pass.badge, Badge::blank()).into_seat::<Option<C>>();

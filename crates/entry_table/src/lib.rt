@@ -4,6 +4,7 @@
 #![tactic(auto)]
 
 mod carried;
+mod changes;
 mod depths;
 mod draft;
 mod draws;
@@ -13,6 +14,7 @@ mod givings;
 mod homes;
 mod links;
 mod loads;
+mod making;
 mod pass;
 mod plays;
 mod rest;
@@ -21,7 +23,11 @@ mod states;
 mod tails;
 mod view;
 
+pub use changes::Exchanged;
 pub use draft::{Draft, Drawn, Linking};
 pub use entries::Entries;
 pub use pass::Pass;
 pub use view::{Drawing, Ruling, Shape, Told, View};
+
+#[cfg(test)]
+mod tests;

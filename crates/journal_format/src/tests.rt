@@ -17,9 +17,9 @@ const JOURNAL: &[u8] = &[
 ];
 /// The place of the length of the batch, behind the open gate.
 const LENGTH: u64 = 17;
-/// A batch of one transaction: the entry 258 of queue `ab` is gone. Its length is 21, and a closed gate follows.
+/// A batch of one transaction: the entry 258 of queue `ab` is gone. Its length is 20, and a closed gate follows.
 const GONE: &[u8] = &[
-    0, 0, 0, 0, 0, 0, 0, 0x15, 0, 0, 0, 1, 0, 0, 0, 1, 2, 2, 0x61, 0x62, 0, 0, 0, 0, 0, 0, 1, 2, 0,
+    0, 0, 0, 0, 0, 0, 0, 0x14, 0, 0, 0, 1, 0, 0, 0, 1, 2, 2, 0x61, 0x62, 0, 0, 0, 0, 0, 0, 1, 2, 0,
 ];
 
 fn bytes(rt: &impl Abort, alloc: Global, bytes: &[u8]) -> Bytes

@@ -1,0 +1,4 @@
+pub mod KeySets
+pub mod Steps
+pub mod Passes
+pub mod LiveOnes
