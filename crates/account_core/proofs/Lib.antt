@@ -4,3 +4,6 @@ pub mod Telling
 pub mod Counting
 pub mod Row25
 pub mod Following
+pub mod Closing
+pub mod Serving
+pub mod Ending

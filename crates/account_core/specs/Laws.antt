@@ -15,7 +15,7 @@ use Rattle.acts_core.specs.Calls.{CallNext, IsGot}
 use Rattle.acts_core.specs.Load.{Load}
 use Rattle.acts_core.specs.Meaning.{Meets}
 use Rattle.acts_core.specs.Moments.{JustBefore}
-use Rattle.acts_core.specs.Sight.{Listed}
+use Rattle.acts_core.specs.Sight.{Build, Listed, plan_of}
 use Rattle.defs_read.specs.Defined.{Defined}
 use Rattle.script_read.specs.declared.lines.Op.{Op}
 use Rattle.script_read.specs.declared.lines.What.TheVariants.{Take}
@@ -28,7 +28,7 @@ use Rattle.txn_core.specs.Shown.{number_after}
 use Rattle.line_core.specs.Fits.{Did, On, Standing, LineFits}
 use Rattle.account_core.specs.Accounts.{Account}
 use Rattle.account_core.specs.Carry.{entries_of, handed_on}
-use Rattle.account_core.specs.Played.{Played, rest_of}
+use Rattle.account_core.specs.Played.{Played, IsClosed, IsPlayed, rest_of}
 use Rattle.account_core.specs.Stories.{Story, told}
 use Rattle.account_core.specs.Phases.{ArePhases, IsPhase, rows_after}
 use Rattle.account_core.specs.Texts.{LogsTell, RestsTell, account_text, actor_names, queue_names, run_text}
@@ -100,3 +100,9 @@ abbrev pub TextAppend : Type 0
 TextAppend =
     (defs : List Defined) (accounts : List Account) (a : Account)
     → run_text defs (accounts ++ a ∷ []) ≡ run_text defs accounts ++ account_text defs a
+
+-- a queue that was closed when all passes were joined is one of the account
+abbrev pub ClosedPlayed : Type 0
+ClosedPlayed =
+    (q : ℕ) (stories : List Story) (build : Build) (opening : Queue) (history : List Deed)
+    → IsClosed q stories build opening history → IsPlayed q stories (record { plan = plan_of build opening; history = history })

@@ -4,6 +4,8 @@ pub mod Accounts
 pub mod Carry
 pub mod Texts
 pub mod Phases
+pub mod Runs
+pub mod Served
 pub mod Last
 pub mod Laws
 pub mod Row25

@@ -1,6 +1,8 @@
 //! Laws on accounts. No program needs to call them: each has its laws as its contract.
-ghost use Rattle.account_core.specs.Laws.{AccountTold, CarryFrees, CarryKeeps, DequeuedOnce, GotCounts, LogTold, OneState, PhasesAppend, TextAppend};
+ghost use Rattle.account_core.specs.Laws.{AccountTold, CarryFrees, CarryKeeps, ClosedPlayed, DequeuedOnce, GotCounts, LogTold, OneState, PhasesAppend, TextAppend};
 ghost use Rattle.account_core.specs.Last.{LastTouch};
+ghost use Rattle.account_core.specs.Runs.{NoneRan};
+ghost use Rattle.account_core.specs.Served.{StoryServes};
 ghost use Rattle.account_core.specs.Row25.{Row25Runs, Row25Text};
 
 /// What no history has: an entry with two holders, or one that is dequeued twice; and how a row came into its state.
@@ -23,10 +25,21 @@ pub fn texts()
     ensures account { AccountTold }
 {}
 
+/// What an actor's lines hand to the targets of consumers.
+pub fn targets()
+    ensures { StoryServes }
+{}
+
+/// What the passes of a queue tell of its phase, when they were joined and it was closed.
+pub fn queues()
+    ensures { ClosedPlayed }
+{}
+
 /// Phases, one after the other.
 pub fn runs()
     ensures phases { PhasesAppend }
     ensures text { TextAppend }
+    ensures none { NoneRan }
 {}
 
 /// An account of two phases with a rest between them: its text, and that it is one.

@@ -1,5 +1,5 @@
 -- definitions that have no cause are within their limits
-use Rattle.std.proofs.Common.{◌≡◌, ℕ, zero, suc, ◌+◌, ◌<◌, ◌≤◌, Bool, true, false, not, List, [], ◌∷◌, ◌++◌, length, map, get_or, Option, Some, None, refl, ap, subst, ◌∙◌, arith}
+use Rattle.std.proofs.Common.{◌≡◌, ℕ, zero, suc, ◌+◌, ◌<◌, ◌≤◌, Bool, true, false, not, List, [], ◌∷◌, ◌++◌, length, map, get_or, Option, Some, None, refl, zero-add, ap, subst, ◌∙◌, arith}
 use Rattle.std.specs.Prelude.{All, nat_le, ◌&&◌, ◌||◌, is_some, option_and_then, option_map, unwrap_or, slice_get}
 use Rattle.std.proofs.lemmas.Bool.Decides.{nat_tests}
 use Rattle.std.proofs.lemmas.List.{length-append, length_push}
@@ -14,6 +14,9 @@ use Rattle.fields_read.specs.declared.fields.Field.TheVariants.{Consumers, Kind,
 use Rattle.fields_read.specs.declared.faults.FieldFault.{FieldFault}
 use Rattle.fields_read.specs.declared.faults.FieldFault.TheVariants.{UnknownField, MissingField, FloatNumber, BadValue}
 use Rattle.defs_read.specs.Allowed.{AreAllowed, HasPriorities, IsAllowed}
+use Rattle.defs_read.proofs.NoCauses.{accepted, all_stand, later_cause, no_cause, no_consumer_cause, no_value_cause, own_cause, unmapped, untested}
+use Rattle.defs_read.proofs.Named.{all_named, bytes_within, entries_within, key_within, queue_name}
+use Rattle.defs_read.proofs.Apart.{consumers_apart, none_distinct, numbered_at, numbered_queues, queue_names_of, queues_apart}
 use Rattle.defs_read.specs.Causes.{consumer_causes, consumers_fault, defs_causes, name_in, names_in, of_field, queue_causes, queues_fault}
 use Rattle.defs_read.specs.Defined.{Defined, consumers_in, defined}
 use Rattle.defs_read.specs.Tables.{later_fields, line_fields, type_named}
@@ -24,27 +27,6 @@ use Rattle.defs_read.specs.declared.faults.DefsFault.{DefsFault}
 use Rattle.defs_read.specs.declared.faults.DefsFault.TheVariants.{TooManyConsumers}
 use Rattle.defs_read.specs.declared.tables.QueueType.{QueueType}
 use Rattle.defs_read.specs.declared.tables.QueueType.TheVariants.{Standard, Priority, Sorted, LastValue}
-
--- ---- where a list of causes has none, none of them is there
-
-no_cause : {A : Type 0} (causes : List (Option A)) (i : ℕ) → first_of causes ≡ None → get_or causes i None ≡ None
-no_cause [] i none = refl
-no_cause (Some c ∷ causes) i none = cc
-no_cause (None ∷ causes) zero none = refl
-no_cause (None ∷ causes) (suc i) none = no_cause causes i none
-
-unmapped : (c : Option FieldFault) → option_map of_field c ≡ None → c ≡ None
-unmapped None none = refl
-unmapped (Some c) none = cc
-
-untested : {A : Type 0} (holds : Bool) (cause : A) → cause_if holds cause ≡ None → holds ≡ false
-untested true cause none = cc
-untested false cause none = refl
-
-accepted : (float good : Bool) → first_of (cause_if float FloatNumber ∷ cause_if (not good) BadValue ∷ []) ≡ None → good ≡ true
-accepted float true none = refl
-accepted true false none = cc
-accepted false false none = cc
 
 -- ---- consumers
 
@@ -77,17 +59,6 @@ numbers_below n most (item d ds) within = All-cons (λ (c : ConsumerDef). c.numb
 
 -- ---- queues
 
--- the values of a queue have no cause
-module _ (queues consumers : List (List ℕ)) (d : Data) (none : first_of (queue_causes queues consumers d) ≡ None) where
-  abbrev t : QueueType
-  t = type_named (text_at Kind d)
-
-  no_value_cause : values_fault (later_fields t) d ≡ None
-  no_value_cause = unmapped (values_fault (later_fields t) d) (no_cause (queue_causes queues consumers d) 4 none)
-
-  no_consumer_cause : consumers_fault consumers (items_at Consumers d) ≡ None
-  no_consumer_cause = no_cause (queue_causes queues consumers d) 5 none
-
 whole_within : (o : Option ℕ) → unwrap_or (option_map (λ n. nat_le 1 n && nat_le n 10) o) false ≡ true → (1 ≤ unwrap_or o 10) × (unwrap_or o 10 ≤ 10)
 whole_within None good = cc
 whole_within (Some n) good = (grind (arith, nat_tests), grind (arith, nat_tests))
@@ -105,17 +76,8 @@ has_priorities LastValue d none = tt
 
 -- a queue, and those behind it
 module _ (queues consumers : List (List ℕ)) (d : Data) (ds : Items) (none : queues_fault queues consumers (item d ds) ≡ None) where
-  abbrev causes : List (Option DefsFault)
-  causes = first_of (queue_causes queues consumers d) ∷ queues_fault (queues ++ name_in d ∷ []) (consumers ++ names_in (items_at Consumers d)) ds ∷ []
-
-  own_cause : first_of (queue_causes queues consumers d) ≡ None
-  own_cause = no_cause causes 0 none
-
-  later_cause : queues_fault (queues ++ name_in d ∷ []) (consumers ++ names_in (items_at Consumers d)) ds ≡ None
-  later_cause = no_cause causes 1 none
-
   own_room : (n : ℕ) → n ≡ length consumers → n ≤ 64 → n + count_items (items_at Consumers d) ≤ 64
-  own_room n is within = rw is (consumers_fit consumers (items_at Consumers d) (no_consumer_cause queues consumers d own_cause) (rw is at within))
+  own_room n is within = rw is (consumers_fit consumers (items_at Consumers d) (no_consumer_cause queues consumers d (own_cause queues consumers d ds none)) (rw is at within))
 
   later_number : (n : ℕ) → n ≡ length consumers → n + count_items (items_at Consumers d) ≡ length (consumers ++ names_in (items_at Consumers d))
   later_number n is = omega (arith, length-append consumers (names_in (items_at Consumers d)), length_names (items_at Consumers d))
@@ -128,6 +90,19 @@ all_fit n queues consumers (item d ds) none is within =
     all_fit (n + count_items list) (queues ++ name_in d ∷ []) (consumers ++ names_in list) ds (later_cause queues consumers d ds none) (later_number queues consumers d ds none n is) (own_room queues consumers d ds none n is within) in
     omega (arith, length-append (consumers_of n list) (consumers_in (queues_of (n + count_items list) ds)), length_consumers n list)
 
+allowed_queue : (n : ℕ) (queues consumers : List (List ℕ)) (d : Data) → first_of (queue_causes queues consumers d) ≡ None → length (consumers_of n (items_at Consumers d)) ≤ 64 → IsAllowed (queue_of n d)
+allowed_queue n queues consumers d none few =
+    let t = type_named (text_at Kind d) in
+    let values = no_value_cause queues consumers d none in
+    record {
+      name = queue_name queues consumers d none;
+      slips = record { consumers = few; priorities = has_priorities t d values };
+      key = key_within queues consumers d none;
+      entries = entries_within t d values;
+      bytes = bytes_within t d values;
+      named = all_named n consumers (items_at Consumers d) (no_consumer_cause queues consumers d none);
+    }
+
 each_allowed : (n : ℕ) (queues consumers : List (List ℕ)) (ds : Items) → queues_fault queues consumers ds ≡ None → n ≡ length consumers → n ≤ 64 → All IsAllowed (queues_of n ds)
 each_allowed n queues consumers no_items none is within = All-nil IsAllowed
 each_allowed n queues consumers (item d ds) none is within =
@@ -135,7 +110,7 @@ each_allowed n queues consumers (item d ds) none is within =
     let own : n + count_items list ≤ 64 = own_room queues consumers d ds none n is within in
     let few : length (consumers_of n list) ≤ 64 = omega (arith, length_consumers n list) in
     All-cons IsAllowed (queue_of n d) (queues_of (n + count_items list) ds)
-    (record { consumers = few; priorities = has_priorities (type_named (text_at Kind d)) d (no_value_cause queues consumers d (own_cause queues consumers d ds none)) })
+    (allowed_queue n queues consumers d (own_cause queues consumers d ds none) few)
     (each_allowed (n + count_items list) (queues ++ name_in d ∷ []) (consumers ++ names_in list) ds (later_cause queues consumers d ds none) (later_number queues consumers d ds none n is) own)
 
 all_numbers : (n most : ℕ) (ds : Items) → n + length (consumers_in (queues_of n ds)) ≤ most → All (λ c. c.number < most) (consumers_in (queues_of n ds))
@@ -164,9 +139,7 @@ stands_within (Some v) stands none = list_within (as_array v) (accepted (is_floa
 
 queues_within : (d : Data) → first_of (defs_causes d) ≡ None → (1 ≤ count_items (items_at Queues d)) × (count_items (items_at Queues d) ≤ 16)
 queues_within d none =
-    let present : presence_fault line_fields line_fields d ≡ None = unmapped (presence_fault line_fields line_fields d) (no_cause (defs_causes d) 1 none) in
-    let lacking : lacks line_fields d ≡ false = untested (lacks line_fields d) MissingField (no_cause (cause_if (has_unknown line_fields d) UnknownField ∷ cause_if (lacks line_fields d) MissingField ∷ []) 1 present) in
-    stands_within (value_at Queues d) lacking (unmapped (field_fault Queues d) (no_cause (defs_causes d) 2 none))
+    stands_within (value_at Queues d) (all_stand line_fields line_fields d (no_cause (defs_causes d) 1 none)) (unmapped (field_fault Queues d) (no_cause (defs_causes d) 2 none))
 
 pub allowed : (d : Data) (queues : List Defined) → first_of (defs_causes d) ≡ None → queues ≡ queues_of 0 (items_at Queues d) → AreAllowed queues
 allowed d queues none told =
@@ -180,6 +153,9 @@ allowed d queues none told =
       few = omega (arith, within.1);
       consumers = rw told (omega arith);
       numbers = rw told (all_numbers 0 64 ds fit);
+      numbered = rw told (λ i c found. numbered_at 0 (consumers_in (queues_of 0 ds)) i c (numbered_queues 0 ds) found ∙ zero-add i);
+      queue_names = rw told (rw (queue_names_of 0 ds) (queues_apart [] [] ds no_queue_cause none_distinct));
+      consumer_names = rw told (consumers_apart 0 [] [] ds no_queue_cause none_distinct);
       each = rw told (each_allowed 0 [] [] ds no_queue_cause refl (omega arith));
     }
 

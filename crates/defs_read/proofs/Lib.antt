@@ -4,4 +4,7 @@ pub mod QueueLoop
 pub mod QueueCauses
 pub mod ConsumerCauses
 pub mod Masks
+pub mod NoCauses
+pub mod Named
+pub mod Apart
 pub mod Bounds

@@ -3,9 +3,11 @@ use Rattle.std.proofs.Common.{◌≡◌, ◌≢◌, ℕ, suc, zero, ◌+◌, ◌
 use Rattle.std.specs.Prelude.{IsSomeAnd, slice_get, ◌↔◌, ◌⊎◌, bit_or}
 use Rattle.std.specs.Int.{bit_at, w64}
 use Rattle.std.proofs.lemmas.Bool.{cases_order}
+use Rattle.std.proofs.lemmas.Nat.{or_lt}
 use Rattle.std.proofs.lemmas.Nat.Bits.{bit_at_set_same, bit_at_set_other}
 use Rattle.std.proofs.lemmas.List.{length-take-le}
 use Rattle.std.proofs.lemmas.Option.{slice_get_past}
+use Rattle.std.proofs.Math.Pow.{pow-lt}
 use Rattle.std.proofs.Math.Seq.{take-suc}
 use Rattle.message_core.specs.Spelling.{Content}
 use Rattle.defs_read.specs.declared.defs.ConsumerDef.{ConsumerDef}
@@ -53,6 +55,20 @@ pub left_bit : (mask : ℕ) (front : List ConsumerDef) (x : ConsumerDef) (m : Co
 left_bit mask front x m was unwanted =
     let none : (bit_at mask (length front) ≡ 1) ↔ ⊥ = rw (slice_get_past front (length front) (omega arith)) at (was (length front)) in
     grown mask mask front x m was (λ set. absurd (none.0 set), λ w. absurd (unwanted w)) (λ c other. refl)
+
+-- a mask of the consumers before the one at i is below 2 ^ i
+pub still_narrow : (mask i : ℕ) → mask < 2 ^ i → mask < 2 ^ (i + 1)
+still_narrow mask i narrow =
+    let less : i < i + 1 = omega arith in
+    let grows : 2 ^ i < 2 ^ (i + 1) = pow-lt less in
+    omega arith
+
+pub with_bit : (mask i : ℕ) → i < 64 → mask < 2 ^ i → bit_or mask (1 * 2 ^ i % 2 ^ 64) < 2 ^ (i + 1)
+with_bit mask i below narrow =
+    let less : i < i + 1 = omega arith in
+    let grows : 2 ^ i < 2 ^ (i + 1) = pow-lt less in
+    let bit : 1 * 2 ^ i % 2 ^ 64 < 2 ^ (i + 1) = omega arith in
+    or_lt (i + 1) mask (1 * 2 ^ i % 2 ^ 64) (still_narrow mask i narrow) bit
 
 -- the same at an index
 pub more_consumers : (consumers : List ConsumerDef) (i : ℕ) (x : ConsumerDef) → i < length consumers → x ≡ get_or consumers i x → take (i + 1) consumers ≡ take i consumers ++ x ∷ []

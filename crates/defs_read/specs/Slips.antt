@@ -26,6 +26,13 @@ IsMask mask consumers m = (c : ℕ) → (bit_at mask c ≡ 1) ↔ IsSomeAnd (sli
 abbrev pub list_among : ℕ → ℕ → ℕ
 list_among n priority = min (priority - (5 - (n + 1) / 2)) (n - 1)
 
+-- how many lists a queue of this kind has
+abbrev pub lists_of : QueueKind → ℕ
+lists_of Standard = 1
+lists_of (Priority n) = n
+lists_of (Sorted key) = 1
+lists_of (LastValue key) = 1
+
 -- the list that a message of this priority goes into
 abbrev pub list_of : QueueKind → ℕ → ℕ
 list_of Standard priority = 0
@@ -46,6 +53,13 @@ key_of Standard m = None
 key_of (Priority n) m = None
 key_of (Sorted key) m = text_in (value_of key m.headers)
 key_of (LastValue key) m = text_in (value_of key m.headers)
+
+-- where a queue goes by no header, its slips have no key
+abbrev pub HasNoKey : QueueKind → Option (List ℕ) → Type 0
+HasNoKey Standard key = key ≡ None
+HasNoKey (Priority n) key = key ≡ None
+HasNoKey (Sorted name) key = Unit {0}
+HasNoKey (LastValue name) key = Unit {0}
 
 -- the slip of the message in this queue
 pub record IsSlip (queue : Defined) (m : Content) (slip : Slip) : Type 0 where

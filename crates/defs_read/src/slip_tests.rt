@@ -152,3 +152,17 @@ fn keys(rt: HostRuntime) -> Result<(), Fail> {
     }
     Ok(())
 }
+
+/// A slip, with enough memory for its key.
+#[test]
+fn ample(rt: HostRuntime) -> Result<(), Fail> {
+    let alloc = rt.alloc();
+    let message = message(&rt, alloc, 4, 2, NORTH_12)?;
+    let text = r#"{"queues":[{"name":"q","type":"sorted","sortKey":"region"}]}"#;
+    let slip = slip_in(&rt, alloc, text, 0, &message);
+    assert_eq!(rt;
+        slip.key.as_ref().map(|key| key.as_slice()),
+        Some(b"north".as_slice())
+    );
+    Ok(())
+}

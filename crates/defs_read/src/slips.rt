@@ -1,10 +1,11 @@
 //! Slips: what a queue knows of a message without reading it.
-ghost use Rattle.std.specs.Prelude.{◌≡◌, ◌≤◌, ◌↔◌, IfOk, IsTrue, length, option_map};
+ghost use Rattle.std.specs.Prelude.{◌≡◌, ◌<◌, ◌≤◌, ◌↔◌, ◌^◌, IfOk, IsTrue, length, option_map};
+ghost use Rattle.queue_model.specs.Table.{FitsQueue};
 ghost use Rattle.message_core.specs.Spelling.{value_of};
-ghost use Rattle.defs_read.specs.Allowed.{HasPriorities, IsAllowed};
+ghost use Rattle.defs_read.specs.Allowed.{GivesSlips, HasPriorities};
 ghost use Rattle.defs_read.specs.Causes.{most_consumers};
 ghost use Rattle.defs_read.specs.Defined.{defined};
-ghost use Rattle.defs_read.specs.Slips.{IsMask, IsSlip, Wants, key_of, list_among, list_of, text_in};
+ghost use Rattle.defs_read.specs.Slips.{HasNoKey, IsMask, IsSlip, Wants, key_of, list_among, list_of, lists_of, text_in};
 
 use crate::defs::{ConsumerDef, QueueDef, QueueKind};
 use byte_lists::{Bytes, NoMemory};
@@ -26,7 +27,8 @@ fn wants(consumer: &ConsumerDef, message: &Message) -> bool
 /// Which consumers of a queue want the message: bit c tells of consumer c, counted from 0 in the queue.
 fn mask_of(consumers: &[ConsumerDef], message: &Message) -> u64
     requires { length consumers.now ≤ most_consumers }
-    ensures { IsMask result consumers.now message.now }
+    ensures mask { IsMask result consumers.now message.now }
+    ensures narrow { result < 2 ^ length consumers.now }
 {
     let mut mask = 0;
     for (index, consumer) in consumers.iter().enumerate() {
@@ -50,7 +52,8 @@ fn list_among(lists: u32, priority: u8) -> u32
 /// The list that a message of this priority goes into.
 fn list_of(kind: &QueueKind, priority: u8) -> u32
     requires { HasPriorities kind.now }
-    ensures { result ≡ list_of kind.now priority }
+    ensures list { result ≡ list_of kind.now priority }
+    ensures there { result < lists_of kind.now }
 {
     match kind {
         QueueKind::Priority(lists) => list_among(*lists, priority),
@@ -84,8 +87,10 @@ fn key_of(alloc: Global, kind: &QueueKind, message: &Message) -> Result<Option<B
 
 /// The slip of the message in the queue. Takes memory for the key alone, and refuses only for want of it.
 pub fn slip(alloc: Global, def: &QueueDef, message: &Message) -> Result<Slip, NoMemory>
-    requires { IsAllowed (defined def.now) }
-    ensures { IfOk result (λ slip. IsSlip (defined def.now) message.now slip) }
+    requires { GivesSlips (defined def.now) }
+    ensures slip { IfOk result (λ slip. IsSlip (defined def.now) message.now slip) }
+    ensures fits { IfOk result (FitsQueue (lists_of def.now.kind) (length def.now.consumers.items)) }
+    ensures key { IfOk result (λ slip. HasNoKey def.now.kind slip.key) }
 {
     let key = key_of(alloc, &def.kind, message)?;
     Ok(Slip {

@@ -1,3 +1,5 @@
 pub mod Changes
 pub mod Replying
 pub mod Dequeuing
+pub mod Naming
+pub mod Depthing

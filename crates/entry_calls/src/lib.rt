@@ -2,8 +2,12 @@
 //! steps on the table. docs/QUEUE-MODEL.md, "What a call means", says what each does and tells.
 #![tactic(auto)]
 
+mod depths;
+mod finding;
 mod locks;
 mod removals;
 
+pub use depths::{depth, give_back, reserve};
+pub use finding::find;
 pub use locks::{lock, release, steal, unlock};
 pub use removals::{delete, dequeue};

@@ -1,5 +1,5 @@
 -- what was got is in the hands
-use Rattle.std.proofs.Common.{find, filter, not, eq-eqb, ◌≡◌, ℕ, Bool, true, false, Option, Some, List, [], ◌∷◌, ◌++◌, refl}
+use Rattle.std.proofs.Common.{find, filter, not, eq-eqb, ◌≡◌, ℕ, Bool, true, false, Some, List, [], ◌∷◌, ◌++◌, refl}
 use Rattle.defs_read.specs.Defined.{Defined}
 use Rattle.acts_core.specs.Load.{Load}
 use Rattle.line_core.specs.Fits.{Did, Standing, Gets, delivered, in_hands}

@@ -1,12 +1,11 @@
 -- calls by a pass, one after the other
-use Rattle.std.proofs.Common.{◌≡◌, ℕ, List, [], ◌∷◌, ◌++◌, map, refl, sym, ap, ap₂, ◌∙◌, subst}
+use Rattle.std.proofs.Common.{◌≡◌, ℕ, List, [], ◌∷◌, ◌++◌, refl, sym, ap, ap₂, ◌∙◌, subst}
 use Rattle.std.proofs.lemmas.List.{map-append}
-use Rattle.queue_model.specs.declared.deeds.Deed.{Deed}
 use Rattle.queue_model.specs.declared.queues.Queue.{Queue}
 use Rattle.acts_core.specs.Calls.{Call, Answer}
 use Rattle.acts_core.specs.Chains.{Made, Chain}
-use Rattle.acts_core.specs.Meaning.{Called, Meets, allowance_after, share_after}
-use Rattle.acts_core.specs.Sight.{Build, Plan, Sight, plan_of}
+use Rattle.acts_core.specs.Meaning.{Called, allowance_after, share_after}
+use Rattle.acts_core.specs.Sight.{Build, Sight, plan_of}
 use Rattle.acts_core.proofs.Chaining.{chain_append, chain_one, quiet_self}
 use Rattle.acts_core.proofs.Forgetting.{forgets}
 use Rattle.line_core.specs.Runs.{RanOn, allowance_over, share_over}
@@ -28,7 +27,8 @@ ran_call build old new call answer m =
       consumers = ap (λ (s : Sight). s.consumers) m.rest;
       ended = ap (λ (s : Sight). s.ended) m.rest;
       allowance = ap (λ (s : Sight). s.allowance) m.rest;
-      share = ap (λ (s : Sight). s.share) m.rest }
+      share = ap (λ (s : Sight). s.share) m.rest;
+    }
 
 allowance_append : (cs ds : List (Call × Answer)) (n : ℕ) → allowance_over (cs ++ ds) n ≡ allowance_over ds (allowance_over cs n)
 allowance_append [] ds n = refl
@@ -52,4 +52,5 @@ ran_append build cs ds a b c x y =
       consumers = y.consumers ∙ x.consumers;
       ended = y.ended ∙ x.ended;
       allowance = y.allowance ∙ ap (allowance_over ds) x.allowance ∙ sym (allowance_append cs ds a.allowance);
-      share = y.share ∙ ap (share_over ds) x.share ∙ sym (share_append cs ds a.share) }
+      share = y.share ∙ ap (share_over ds) x.share ∙ sym (share_append cs ds a.share);
+    }

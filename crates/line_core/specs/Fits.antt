@@ -10,7 +10,7 @@ use Rattle.defs_read.specs.Defined.{Defined}
 use Rattle.defs_read.specs.Slips.{IsSlip}
 use Rattle.script_read.specs.declared.lines.Op.{Op}
 use Rattle.script_read.specs.declared.lines.What.{What}
-use Rattle.script_read.specs.declared.lines.What.TheVariants.{Put, Take, Close, Ack, Release, Lock, Unlock, Steal, Begin, Commit, Rollback}
+use Rattle.script_read.specs.declared.lines.What.TheVariants.{Put, Take, Close, Ack, Release, Lock, Unlock, Steal}
 use Rattle.report_core.specs.declared.answers.Answer as report
 use Rattle.report_core.specs.declared.answers.Answer.TheVariants.{Accepted, Got, Empty, NoCredit, Closed, Acked, NotHeld, Stolen, Released, Unlocked, Locked, Stole, NotStealable, Moved, Absent}
 use Rattle.report_core.specs.declared.answers.Span.{Span}

@@ -3,7 +3,7 @@ use Rattle.std.specs.Prelude.{◌≡◌, ℕ, ◌+◌, ◌-◌, ◌≤◌, Bool,
 use Rattle.acts_core.specs.Load.{Load}
 use Rattle.message_core.specs.Spelling.{Content, content}
 use Rattle.defs_read.specs.Defined.{Defined}
-use Rattle.target_core.specs.Seats.{Seat, Seats, left_of, seat_at, sum_of}
+use Rattle.target_core.specs.Seats.{Seat, left_of, sum_of}
 use Rattle.target_core.specs.declared.deliveries.Delivery.{Delivery}
 
 -- the queue of consumer c, counted over all queues from queue q on, and its number there

@@ -1,5 +1,5 @@
 -- the calls that lines made, and the histories of the queues
-use Rattle.std.specs.Prelude.{◌≡◌, ℕ, nat_eq, if◌then◌else◌, Some, None, List, [], ◌∷◌, ◌++◌, length, map, slice_get}
+use Rattle.std.specs.Prelude.{◌≡◌, ℕ, nat_eq, if◌then◌else◌, Some, List, [], ◌∷◌, length, map, slice_get}
 use Rattle.acts_core.specs.Calls.{Call, Answer}
 use Rattle.acts_core.specs.Chains.{Made, Chain}
 use Rattle.acts_core.specs.Meaning.{allowance_after, share_after}

@@ -9,3 +9,6 @@ pub mod Names
 pub mod Contents
 pub mod Firsts
 pub mod Says
+pub mod DefinedLines
+pub mod Filed
+pub mod AllowedLines

@@ -7,4 +7,5 @@ pub mod Reading
 pub mod Parts
 pub mod Phases
 pub mod Scripts
+pub mod Allowed
 pub mod SoFar

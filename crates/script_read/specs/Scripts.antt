@@ -45,13 +45,14 @@ abbrev pub fault_after : Bool → List Line → Line → Option LineFault
 fault_after journal before Rest = None
 fault_after journal before (Doing op) = first_of (put_causes journal before op.what ++ (cause_if (not (is_in_phase op.actor (open_phase before)) && nat_le most_actors (length (open_phase before))) TooManyActors ∷ []))
 
+-- what a line says after these, or its first cause beside them
+abbrev pub beside : Bool → List Line → Result Line LineFault → Result Line LineFault
+beside journal before (Err cause) = Err cause
+beside journal before (Ok l) = unless (fault_after journal before l) l
+
 -- what a text says after these lines, or its first cause
 abbrev pub line_after : List Defined → Bool → List Line → ℕ → List ℕ → Result Line LineFault
-line_after queues journal before n text = with_those_before (line_says queues n text)
-  where
-    with_those_before : Result Line LineFault → Result Line LineFault
-    with_those_before (Err cause) = Err cause
-    with_those_before (Ok l) = unless (fault_after journal before l) l
+line_after queues journal before n text = beside journal before (line_says queues n text)
 
 -- where the line of number n was read, what comes after it; else the refusal of that line
 abbrev pub goes_on : ℕ → Result Line LineFault → (Line → Result (List Line) ScriptFault) → Result (List Line) ScriptFault

@@ -1,8 +1,9 @@
 //! Reads the lines of a script.
-ghost use Rattle.std.specs.Prelude.{◌≡◌, ◌+◌, ◌^◌, ◌<◌, ◌≤◌, List, length};
-ghost use Rattle.defs_read.specs.Allowed.{most_queues};
+ghost use Rattle.std.specs.Prelude.{◌≡◌, ◌+◌, ◌^◌, ◌<◌, ◌≤◌, List, length, IfOk};
+ghost use Rattle.defs_read.specs.Allowed.{AreAllowed, most_queues};
 ghost use Rattle.defs_read.specs.Defined.{queues_in};
-ghost use Rattle.script_read.specs.Phases.{actors_in};
+ghost use Rattle.script_read.specs.Allowed.{AreAllowedPhases};
+ghost use Rattle.script_read.specs.Phases.{actors_in, phases_in};
 ghost use Rattle.script_read.specs.Scripts.{GivesScript, line_after, script_of};
 ghost use Rattle.script_read.specs.SoFar.{AddsLine, Tracks};
 ghost use Rattle.script_read.specs.declared.lines.Line.{Line};
@@ -62,7 +63,8 @@ fn read_next(
 /// Reads all lines behind the definitions, the first of which has the number `from`. Blank lines are counted and passed
 /// over. `from` and the number of bytes are together below 2^64, so that each line has a number. `journal` says whether
 /// the run has a journal. Refuses with the first line that has a cause, and the first of its causes in the order that
-/// docs/SCRIPT.md gives; NoMemory may come in place of any, and then the line tells nothing.
+/// docs/SCRIPT.md gives; NoMemory may come in place of any, and then the line tells nothing. Each line of a phase is
+/// filed under its own actor and names what is defined, and no id is put to a queue twice.
 pub fn read_script(
     alloc: Global,
     bytes: &[u8],
@@ -72,7 +74,8 @@ pub fn read_script(
 ) -> Result<Script, ScriptFault>
     requires few { length (queues_in defs.now) ≤ most_queues }
     requires numbers { from + length bytes.now < 2 ^ 64 }
-    ensures { GivesScript result (script_of (queues_in defs.now) journal from bytes.now) }
+    ensures script { GivesScript result (script_of (queues_in defs.now) journal from bytes.now) }
+    ensures allowed { AreAllowed (queues_in defs.now) → IfOk result (λ script. AreAllowedPhases (queues_in defs.now) journal (phases_in script)) }
 {
     let mut so_far = SoFar::new(alloc);
     let mut rest = bytes;

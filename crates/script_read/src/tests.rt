@@ -198,3 +198,18 @@ fn phase_of_actors(rt: HostRuntime) -> Result<(), Fail> {
     assert_eq!(rt; shown.as_slice(), b"[a 5]".as_slice());
     Ok(())
 }
+
+/// Each call that may want memory, with enough of it.
+#[test]
+fn ample(rt: HostRuntime) -> Result<(), Fail> {
+    let alloc = rt.alloc();
+    let defs = two_queues(&rt)?;
+    assert!(rt; defs.queues.len() <= 16);
+    let line = read_line(alloc, PUT_7.as_bytes(), 2, &defs)?;
+    assert!(rt; matches!(line, Line::Doing(Op { line: 2, .. })));
+    let message = read_message(alloc, b"{\"id\":7}")?;
+    assert_eq!(rt; message.id(), 7);
+    let script = read_script(alloc, PUT_7.as_bytes(), &defs, false, 2)?;
+    assert_eq!(rt; script.phases.len(), 1);
+    Ok(())
+}

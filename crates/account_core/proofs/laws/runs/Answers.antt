@@ -1,5 +1,6 @@
 use Rattle.account_core.proofs.Following.{phases_append, text_append}
+use Rattle.account_core.proofs.Ending.{none_ran}
 use Rattle.account_core.proofs.laws.runs.Goals as goal
 
 pub returns : goal.returns
-returns c = record { phases = phases_append; text = text_append }
+returns c = record { phases = phases_append; text = text_append; none = none_ran }

@@ -13,4 +13,4 @@ slip-requires g c =
     let found : slice_get c.deref.result.now place ≡ Some queue = slice_get_read c.deref.result.now _ place queue refl
     (ltb-true place _ (sym c.get.ensures.lookup.0 ∙ ap is_some c.expect-queue.ensures))
     (subst (λ o. IfSome o (λ x. x.now ≡ get_or c.deref.result.now place x.now)) c.expect-queue.ensures c.get.ensures.lookup.1) in
-    allowed_at c.in-Ok.defs.queues.items place queue c.in-Ok.ensures.allowed (ap (λ (queues : List QueueDef). slice_get queues place) (sym c.deref.ensures.value) ∙ found)
+    (allowed_at c.in-Ok.defs.queues.items place queue c.in-Ok.ensures.allowed (ap (λ (queues : List QueueDef). slice_get queues place) (sym c.deref.ensures.value) ∙ found)).slips

@@ -1,4 +1,3 @@
-use Rattle.std.proofs.Common.{◌++◌}
 use Rattle.std.specs.List.{flat_map}
 use Rattle.outside_io.proofs.Says.{says_then}
 use Rattle.outside_io.proofs.Saying.{cut_second}

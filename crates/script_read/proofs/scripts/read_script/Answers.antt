@@ -1,12 +1,15 @@
 use Rattle.std.proofs.Common.{◌∙◌, sym, subst, arith, [], ◌∷◌, ◌++◌}
 use Rattle.std.proofs.lemmas.Bool.{eqb-true}
 use Rattle.defs_read.specs.Defined.{queues_in}
+use Rattle.script_read.specs.Allowed.{AreAllowedPhases}
+use Rattle.script_read.specs.Lines.{lines_of, numbered}
 use Rattle.script_read.specs.SoFar.{Tracks}
+use Rattle.script_read.proofs.AllowedLines.{ReadAll, allowed_phases}
 use Rattle.script_read.specs.declared.so_far.SoFar.{SoFar}
 use Rattle.script_read.proofs.Steps.{nothing_further, passed_over, read_on}
 use Rattle.script_read.proofs.Tracked.{added}
 use Rattle.script_read.proofs.scripts.read_script.Goals as goal
-use Rattle.script_read.proofs.scripts.read_script.Goals.{then-not-has_nothing+in_default, else-not-has_nothing}
+use Rattle.script_read.proofs.scripts.read_script.Goals.{then-not-has_nothing+in_default, else-not-has_nothing, In-Ok}
 
 pub reading-preserved : goal.reading-preserved
 reading-preserved c =
@@ -32,7 +35,20 @@ reading-preserved c =
           }
     ]
 
-pub returns-in-Ok : goal.returns-in-Ok
-returns-in-Ok c =
+-- all lines were read, and these are their phases
+read_all : (c : In-Ok) → ReadAll (queues_in c.args.defs.now) c.args.journal c.args.from c.args.bytes.now c.in-Ok.script
+read_all c =
     let before = c.reading.invariant.before in
-    (before, c.reading.invariant.further ∙ nothing_further (queues_in c.args.defs.now) c.args.journal before c.reading.line c.reading.rest.now (eqb-true _ _ (sym c.is_empty.ensures ∙ c.reading-test.false)), c.in-Ok.ensures before c.reading.invariant.tracks)
+    record {
+      lines = before;
+      said = c.reading.invariant.further ∙ nothing_further (queues_in c.args.defs.now) c.args.journal before c.reading.line c.reading.rest.now (eqb-true _ _ (sym c.is_empty.ensures ∙ c.reading-test.false));
+      phases = c.in-Ok.ensures before c.reading.invariant.tracks;
+    }
+
+pub returns-in-Ok-clause-script : goal.returns-in-Ok-clause-script
+returns-in-Ok-clause-script c = let all = read_all (goal.at.returns-in-Ok-clause-script c).In-Ok in (all.lines, all.said, all.phases)
+
+pub returns-in-Ok-clause-allowed : goal.returns-in-Ok-clause-allowed
+returns-in-Ok-clause-allowed c = λ allowed.
+    let all = read_all (goal.at.returns-in-Ok-clause-allowed c).In-Ok in
+    subst (AreAllowedPhases (queues_in c.args.defs.now) c.args.journal) (sym all.phases) (allowed_phases (queues_in c.args.defs.now) c.args.journal allowed.numbered (numbered c.args.from (lines_of c.args.bytes.now)) all.lines all.said)

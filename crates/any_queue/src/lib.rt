@@ -1,0 +1,6 @@
+//! Queues of all kinds as one.
+#![tactic(auto)]
+
+mod kinds;
+
+pub use kinds::{AnyPass, AnyQueue};
