@@ -1,4 +1,4 @@
-use Rattle.std.proofs.Common.{rules, refl, sym, ap, ◌∙◌, ◌≡◌, ◌<◌, ◌≤◌, ◌^◌, ℕ, subst, arith}
+use Rattle.std.proofs.Common.{sym, ap, ◌∙◌, ◌≡◌, ◌<◌, ◌^◌, ℕ, subst, arith}
 use Rattle.queue_model.specs.State.{reserved_by}
 use Rattle.queue_model.specs.Table.{CanGive}
 use Rattle.acts_core.proofs.Passes.{pass_reserves}
