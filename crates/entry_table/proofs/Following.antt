@@ -1,6 +1,6 @@
 -- what the link behind a stop of a list tells
-use Rattle.std.proofs.Common.{◌≡◌, ◌≢◌, ◌⊎◌, inl, inr, ℕ, zero, suc, ◌+◌, ◌-◌, ◌≤◌, ◌<◌, ◌==◌, Bool, true, false, cond, Option, Some, None, List, [], ◌∷◌, ◌++◌, length, filter, find, refl, sym, ap, ◌∙◌, subst, ⊎_elim, append_assoc, length-append, eq-eqb, ne_eqb, eqb-true, arith}
-use Rattle.std.proofs.lemmas.Bool.{cases_Bool, cond-true, cond-false, eqb-false}
+use Rattle.std.proofs.Common.{◌≡◌, ◌≢◌, ◌⊎◌, inl, inr, ℕ, zero, suc, ◌+◌, ◌-◌, ◌≤◌, ◌<◌, Bool, true, false, cond, Option, Some, None, List, [], ◌∷◌, ◌++◌, length, filter, find, refl, sym, ap, ◌∙◌, subst, ⊎_elim, append_assoc, length-append, eq-eqb, ne_eqb, eqb-true, arith}
+use Rattle.std.proofs.lemmas.Bool.{cases_Bool, cond-true, cond-false}
 use Rattle.std.specs.List.{AllByRecursion, position_or_len}
 use Rattle.std.specs.Prelude.{slice_index}
 use mathlib.Core.List.{IsPrefix}
@@ -8,7 +8,6 @@ use Rattle.queue_model.specs.declared.deeds.Deed.{Deed}
 use Rattle.queue_model.specs.declared.queues.Queue.{Queue}
 use Rattle.queue_model.specs.declared.rows.Row.{Row}
 use Rattle.queue_model.specs.declared.rows.RowState.TheVariants.{Deleted}
-use Rattle.queue_model.specs.declared.steps.Node.{Node}
 use Rattle.queue_model.specs.declared.steps.Node.TheVariants as nodes
 use Rattle.queue_model.specs.declared.steps.Step.TheVariants.{Load}
 use Rattle.queue_model.specs.declared.steps.WordName.TheVariants as names

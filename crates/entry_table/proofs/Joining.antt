@@ -1,36 +1,26 @@
 -- several steps of one call
-use Rattle.std.proofs.Common.{◌≡◌, ◌≢◌, ℕ, zero, suc, ◌+◌, ◌<◌, ◌≤◌, List, [], ◌∷◌, ◌++◌, Option, Some, None, find, inl, inr, ⊎_elim, ◌⊎◌, refl, sym, ap, ap₂, ◌∙◌, subst, arith, append-nil, append_assoc}
-use mathlib.Core.List.{IsPrefix}
-use Rattle.atomic_table.specs.Table.{Me, rest}
+use Rattle.std.proofs.Common.{◌≡◌, ◌≢◌, ℕ, suc, ◌<◌, ◌≤◌, List, [], ◌∷◌, ◌++◌, Option, Some, None, find, inl, refl, sym, ap, ◌∙◌, subst, arith, append_assoc}
+use Rattle.atomic_table.specs.Table.{Me}
 use Rattle.queue_model.specs.declared.deeds.Act.{Act}
 use Rattle.queue_model.specs.declared.deeds.Deed.{Deed}
 use Rattle.queue_model.specs.declared.queues.Queue.{Queue}
-use Rattle.queue_model.specs.declared.queues.Reservation.{Reservation}
-use Rattle.queue_model.specs.declared.rows.Row.{Row}
 use Rattle.queue_model.specs.declared.steps.Node.{Node}
 use Rattle.queue_model.specs.declared.steps.Node.TheVariants as nodes
 use Rattle.queue_model.specs.declared.steps.Step.{Step}
 use Rattle.queue_model.specs.declared.steps.Step.TheVariants as steps
 use Rattle.queue_model.specs.declared.steps.WordName.TheVariants as names
-use Rattle.queue_model.specs.History.{after, Legal, own}
+use Rattle.queue_model.specs.History.{after, own}
 use Rattle.acts_core.specs.Load.{Load}
-use Rattle.queue_model.specs.State.{row_at, list_at, place_at, reserved_by}
-use Rattle.queue_model.specs.Table.{CanGive}
-use Rattle.queue_model.proofs.Histories.{after-append}
 use Rattle.queue_model.proofs.Owns.{own_rest}
 use Rattle.queue_model.proofs.Prefixes.{prefix_trans}
-use Rattle.queue_model.proofs.Stable.{row_stays, list_stays, place_stays, reserved_stays}
 use Rattle.link_core.specs.Layout.{words_of, link_of}
 use Rattle.entry_table.specs.declared.draft.Draft.{Draft}
-use Rattle.entry_table.specs.declared.draft.Linking.TheVariants as answers
 use Rattle.entry_table.specs.declared.view.Drawing.{Drawing}
 use Rattle.entry_table.specs.declared.view.Shape.{Shape}
-use Rattle.queue_model.specs.declared.steps.Tried.{Tried}
 use Rattle.entry_table.specs.declared.view.View.{View}
 use Rattle.entry_table.specs.Views.{caller_of, rest_of, is_drawing, drawing_at, drawn_without, entry, state_in, Mine}
-use Rattle.entry_table.specs.Plays.{Steps, Within, Went, Shows, looked, looked_view, slotted_view, by_me, IsKnown, list_at_node, place_at_node, Linkable, enters, linked_view, DidLink, CanLink, LinkReady, DidEnter, Blocked, quiet, later_view, linked, linking, AfterCall}
+use Rattle.entry_table.specs.Plays.{Steps, Within, Went, Shows, looked, looked_view, slotted_view, by_me, IsKnown, Linkable, enters, linked_view, DidLink, CanLink, LinkReady, DidEnter, Blocked, quiet, later_view, linked, linking, AfterCall}
 use Rattle.entry_table.proofs.Keeping.{Same}
-use Rattle.entry_table.proofs.Entering.{lists_after}
 
 pub steps_trans : (O : Queue) (h : ℕ) (cs ks : List ℕ) (a b c ds es : List Deed) → Steps O h cs ks a b ds → Steps O h cs ks b c es → Steps O h cs ks a c (ds ++ es)
 steps_trans O h cs ks a b c ds es p q = record {

@@ -1,5 +1,5 @@
 -- steps that leave drafts and slots as they are, loads among them
-use Rattle.std.proofs.Common.{◌≡◌, ◌≢◌, ℕ, zero, suc, ◌+◌, ◌<◌, ◌≤◌, ◌⊎◌, eqb, List, [], ◌∷◌, ◌++◌, length, set, get_or, Option, Some, None, refl, sym, ap, ap₂, ◌∙◌, subst, ⊎_elim, arith, append-nil, inl, inr}
+use Rattle.std.proofs.Common.{◌≡◌, ◌≢◌, ℕ, ◌+◌, ◌<◌, ◌≤◌, eqb, List, [], ◌∷◌, ◌++◌, set, Option, refl, sym, ap, ◌∙◌, subst, arith, append-nil}
 use Rattle.std.specs.Prelude.{slice_index}
 use Rattle.std.specs.List.{sum_by}
 use Rattle.std.proofs.lemmas.List.{set-get_or}
@@ -23,7 +23,7 @@ use Rattle.link_core.specs.Layout.{draft_of}
 use Rattle.link_core.specs.Stands.{Stands}
 use Rattle.entry_table.specs.declared.view.Shape.{Shape}
 use Rattle.entry_table.specs.declared.view.View.{View}
-use Rattle.entry_table.specs.Views.{caller_of, reached_by, takes_of, AllEnd}
+use Rattle.entry_table.specs.Views.{reached_by, takes_of, AllEnd}
 use Rattle.entry_table.specs.Rule.{table_at, Cargoes, Holds, RuledAt, Ruled, allowance, share}
 use Rattle.entry_table.specs.Plays.{looked, looked_view}
 use Rattle.entry_table.proofs.Frames.{sum_views, drafts_set, takes_set, away_set}

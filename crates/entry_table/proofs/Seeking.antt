@@ -1,12 +1,11 @@
 -- a draw of a row, over several tries
-use Rattle.std.proofs.Common.{◌≡◌, ◌≢◌, ℕ, ◌+◌, ◌-◌, ◌<◌, ◌≤◌, List, [], ◌∷◌, ◌++◌, length, length-append, None, refl, sym, ap, ◌∙◌, subst, arith, append-nil, append_assoc}
+use Rattle.std.proofs.Common.{◌≡◌, ◌≢◌, ℕ, ◌+◌, ◌-◌, ◌<◌, List, [], ◌∷◌, ◌++◌, length, length-append, refl, sym, ap, ◌∙◌, arith, append_assoc}
 use Rattle.std.specs.List.{AllByRecursion}
 use Rattle.queue_model.specs.declared.deeds.Deed.{Deed}
 use Rattle.queue_model.specs.declared.steps.Step.TheVariants as steps
 use Rattle.queue_model.specs.declared.steps.Tried.{Tried}
-use Rattle.entry_table.specs.declared.view.Shape.{Shape}
 use Rattle.entry_table.specs.declared.view.View.{View}
-use Rattle.entry_table.specs.Views.{entry, rest_of, blank_drawing}
+use Rattle.entry_table.specs.Views.{entry, blank_drawing}
 use Rattle.entry_table.specs.Plays.{Went, looked_view, drew_view, is_draw, DidDraw, Seeks}
 use Rattle.entry_table.proofs.Joining.{went_trans}
 use Rattle.entry_table.proofs.Keeping.{Same}

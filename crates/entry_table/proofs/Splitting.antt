@@ -1,19 +1,16 @@
 -- stores by their operands, and what splits and notes leave
-use Rattle.std.proofs.Common.{false, ◌≡◌, ◌≢◌, ℕ, zero, suc, ◌+◌, ◌-◌, ◌*◌, ◌<◌, ◌≤◌, List, [], ◌∷◌, ◌++◌, Option, Some, None, add-zero, refl, sym, ap, ◌∙◌, subst, arith, append-nil, inl, inr, ⊎_elim}
-use mathlib.Core.List.{IsPrefix}
+use Rattle.std.proofs.Common.{◌≡◌, ℕ, ◌<◌, List, ◌∷◌, Option, Some, None, sym, subst, arith}
 use Rattle.atomic_table.specs.Table.{Me, Allows}
-use Rattle.queue_model.specs.declared.deeds.Deed.{Deed}
 use Rattle.queue_model.specs.declared.steps.DraftWord.{DraftWord}
-use Rattle.queue_model.specs.History.{after, own}
 use Rattle.acts_core.specs.Load.{Load}
 use Rattle.link_core.specs.Layout.{draft_of, words_of}
 use Rattle.link_core.proofs.Frames.{draft_high}
 use Rattle.entry_table.specs.declared.view.Drawing.{Drawing}
 use Rattle.entry_table.specs.declared.view.Shape.{Shape}
 use Rattle.entry_table.specs.declared.view.View.{View}
-use Rattle.entry_table.specs.Views.{Has, caller_of, rest_of, drawing_at}
+use Rattle.entry_table.specs.Views.{drawing_at}
 use Rattle.entry_table.specs.Rule.{Ruled}
-use Rattle.entry_table.specs.Plays.{Steps, Went, stored, numbered, numbered_view, behind, cut_left, cut_right, DidSplit, merged, note, Joined, Met}
+use Rattle.entry_table.specs.Plays.{stored}
 use Rattle.entry_table.proofs.Drafting.{stores_allowed}
 
 -- Stores

@@ -23,3 +23,12 @@ pub struct Entries<C: Freight> {
     pub ghost lists: { shape.lists ≤ 10 },
     pub ghost consumers: { shape.consumers ≤ 64 },
 }
+
+impl<C: Freight> Entries<C> {
+    /// How many lists the table has.
+    pub fn lists(&self) -> u32
+        ensures { result ≡ self.now.shape.lists }
+    {
+        self.shape.lists
+    }
+}
