@@ -11,3 +11,4 @@ pub mod Running
 pub mod Stepping
 pub mod Walking
 pub mod Answering
+pub mod Coming

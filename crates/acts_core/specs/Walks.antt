@@ -15,7 +15,7 @@ use Rattle.acts_core.specs.Lists.{Begins, EachDue}
 use Rattle.acts_core.specs.Moments.{Between, IsRow}
 use Rattle.acts_core.specs.Owed.{is_available, is_free}
 use Rattle.acts_core.specs.Sight.{Sight, Evidence, Showed, Starts, on_head}
-use Rattle.acts_core.specs.Steps.{Stepped, SameRights, NoHead}
+use Rattle.acts_core.specs.Steps.{Stepped, SameRights, NoHead, NoHeads}
 
 -- What a walk looks for
 
@@ -99,6 +99,14 @@ FollowsTo old new l w (Some r) =
     Follows old new l w × IsOfList (after old.opening new.seen) l r
     × (reach (after old.opening new.seen) w ≤ place_at (after old.opening new.seen) r)
     × AreDeleted (after old.opening new.seen) l (reach (after old.opening new.seen) w) (place_at (after old.opening new.seen) r)
+
+-- row r was tried and was not what is asked for, in the state that is then known
+pub record Misses (old new : Sight) (ask : Ask) (r : ℕ) : Type 0 where
+  pub added : List Tried
+  pub steps : Stepped old new [] added
+  pub rights : SameRights old new
+  pub heads : NoHeads added
+  pub fails : (x : Row) → row_at (after old.opening new.seen) r ≡ Some x → Fails ask x
 
 -- Walks of one list
 

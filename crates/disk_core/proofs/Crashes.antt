@@ -3,7 +3,8 @@ use Rattle.std.proofs.Common.{◌≡◌, ⊎_elim, ◌<◌, ◌≤◌, ◌+◌, 
 use Rattle.std.proofs.lemmas.List.{append-nil, reverse-append, map-append, take_at, drop_at, take_more, drop-drop, drop-append-le, drop_all, length-take-le, length-map, length-reverse, get_or-drop}
 use Rattle.std.proofs.lemmas.Bool.{cases_lt}
 use Rattle.std.specs.List.{All}
-use Rattle.std.specs.Prelude.{Result, Ok, Err, IfOk}
+use Rattle.std.specs.Prelude.{Result, Ok, Err, IfOk, Option, Some, None, IfSome}
+use Rattle.outside_io.specs.Told.{WhileTold}
 use Rattle.std.proofs.Math.Seq.{drop-append-add}
 use Rattle.disk_core.specs.declared.trails.Step.{Step}
 use Rattle.disk_core.specs.declared.memory.Move.{Move}
@@ -106,3 +107,9 @@ pub not_sync : (ms : List Move) (kept i : ℕ) (d : Move) → All IsWrite (drop 
 not_sync ms kept i d all le lt is =
     let e : get_or (drop kept ms) (i - kept) d ≡ get_or ms i d = get_or-drop kept ms (i - kept) d ∙ ap (λ k. get_or ms k d) (omega (arith, le)) in
     subst IsWrite (e ∙ is) (all (i - kept) d (omega (arith, length-drop kept ms, lt, le)))
+
+-- a disk whose length was asked for has a place up to it
+pub reaches : (old new : Option (List ℕ)) (n at : ℕ) → IfSome old (λ b. n ≡ length b) → WhileTold old new (λ x y. y ≡ x) → at ≤ n → IfSome new (λ b. at ≤ length b)
+reaches old None n at size still le = tt
+reaches None (Some y) n at size still le = absurd still
+reaches (Some x) (Some y) n at size still le = omega (arith, size, ap length still, le)

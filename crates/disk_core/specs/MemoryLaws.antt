@@ -8,6 +8,7 @@ use Rattle.outside_io.specs.Counts.{last_count}
 use Rattle.disk_core.specs.declared.trails.Step.{Step}
 use Rattle.disk_core.specs.declared.trails.Step.TheVariants.{Write, Sync}
 use Rattle.disk_core.specs.declared.trails.Trail.{Trail}
+use Rattle.disk_core.specs.Images.{IsTold}
 use Rattle.disk_core.specs.Trails.{content, IsImage, IsSince, SinceIn}
 use Rattle.disk_core.specs.Memory.{DiskView, tells, seen_of, images_of, moment_of, since_of, trail_of}
 
@@ -41,6 +42,13 @@ while_told false x P p = tt
 
 pub reads : (d : DiskView) → IfSome (seen_of d) (images_of d)
 reads d = while_told (tells d) (content d.first d.steps) (IsImage d.first d.steps) (reads_image d.first d.steps)
+
+told_some : (told : Bool) (x : List ℕ) → IsTrue told → IsTold (if told then Some x else None)
+told_some true x is = refl
+told_some false x is = is
+
+pub has_told : (d : DiskView) (c : List ℕ) → images_of d c → IsTold (seen_of d)
+has_told d c p = told_some (tells d) (content d.first d.steps) p.0
 
 pub only_now : (d : DiskView) (c : List ℕ) → since_of d (moment_of d) c → images_of d c
 only_now d c p = (p.0, now_only d.first d.steps c p.1)

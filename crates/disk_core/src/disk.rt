@@ -94,6 +94,9 @@ pub trait Disk: Send {
     /// The disk as it reads is one of its images.
     ghost reads: { (d : Self) → IfSome (seen d) (images d) };
 
+    /// Where a disk has an image, it tells its bytes.
+    ghost tells: { (d : Self) (c : List ℕ) → images d c → IsTold (seen d) };
+
     /// A disk has at most 2^63 - 1 bytes.
     ghost within: { (d : Self) → IfSome (seen d) (λ b. length b < 2 ^ 63) };
 

@@ -70,6 +70,8 @@ impl Disk for FileDisk {
 
     ghost reads = { λ _. tt };
 
+    ghost tells = { λ _ _ p. absurd p };
+
     ghost within = { λ _. tt };
 
     ghost traced = { λ _ _ _ p. p };

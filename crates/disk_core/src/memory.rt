@@ -166,7 +166,7 @@ fn with_room<T>(alloc: Global, room: usize) -> Result<Vec<T>, NoMemory>
 }
 
 impl Disk for MemoryDisk {
-    ghost use Rattle.disk_core.specs.MemoryLaws.{only_now, counts_now, from_later, reads, within, traced, tracing, counted};
+    ghost use Rattle.disk_core.specs.MemoryLaws.{only_now, counts_now, from_later, reads, has_told, within, traced, tracing, counted};
 
     ghost seen = { seen_of };
 
@@ -189,6 +189,8 @@ impl Disk for MemoryDisk {
     ghost from_later = { from_later };
 
     ghost reads = { reads };
+
+    ghost tells = { has_told };
 
     ghost within = { within };
 

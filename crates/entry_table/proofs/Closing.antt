@@ -20,7 +20,7 @@ use Rattle.queue_model.specs.Packing.{pack_state}
 use Rattle.link_core.specs.Stands.{Stands, Chain, Points}
 use Rattle.link_core.specs.Table.{Table}
 use Rattle.entry_table.specs.Rule.{Carries}
-use Rattle.entry_table.specs.Resting.{is_live, live, rests, Keyless, Legible, IsRest, AreRests, Waits, AllWait, Rested, Walking, IsFor}
+use Rattle.entry_table.specs.Resting.{is_live, live, rests, Keyless, Legible, IsRest, AreGathered, Waits, AllWait, Rested, Walking, IsFor}
 use Rattle.acts_core.specs.declared.cargoes.RestEntry.{RestEntry}
 
 -- Words and slots that are read
@@ -116,13 +116,13 @@ chain_ends words (x ∷ xs) c = ⊎_elim (λ (e : 0 ≡ suc x.number). absurd (o
 module _ {C : Type 0} (load : C → Load) where
   -- Entries and their rows
 
-  rests_more : (es : List (RestEntry C)) (xs : List Row) (e : RestEntry C) (x : Row) → AreRests load es xs → IsRest load e x → AreRests load (es ++ e ∷ []) (xs ++ x ∷ [])
+  rests_more : (es : List (RestEntry C)) (xs : List Row) (e : RestEntry C) (x : Row) → AreGathered load es xs → IsRest load e x → AreGathered load (es ++ e ∷ []) (xs ++ x ∷ [])
   rests_more [] [] e x all is = (is, tt)
   rests_more [] (y ∷ xs) e x all is = absurd all
   rests_more (d ∷ es) [] e x all is = absurd all
   rests_more (d ∷ es) (y ∷ xs) e x all is = (all.0, rests_more es xs e x all.1 is)
 
-  pub rests_long : (es : List (RestEntry C)) (xs : List Row) → AreRests load es xs → length es ≡ length xs
+  pub rests_long : (es : List (RestEntry C)) (xs : List Row) → AreGathered load es xs → length es ≡ length xs
   rests_long [] [] all = refl
   rests_long [] (y ∷ xs) all = absurd all
   rests_long (d ∷ es) [] all = absurd all

@@ -103,10 +103,10 @@ apart_front : (pre : List Row) (y : Row) (back : List Row) → Apart same_number
 apart_front [] y back apart = refl
 apart_front (x ∷ pre) y back apart =
     let other : x.number ≢ y.number = λ e.
-      let hit : is_row x.number y ≡ true = eq-eqb y.number x.number (sym e) in
-      let seen : find (is_row x.number) (pre ++ y ∷ back) ≡ None = apart.0 in
-      let miss : is_row x.number y ≡ false = later_head x.number pre y back seen in
-      (let bad : true ≡ false = sym hit ∙ miss in cc)
+    let hit : is_row x.number y ≡ true = eq-eqb y.number x.number (sym e) in
+    let seen : find (is_row x.number) (pre ++ y ∷ back) ≡ None = apart.0 in
+    let miss : is_row x.number y ≡ false = later_head x.number pre y back seen in
+    (let bad : true ≡ false = sym hit ∙ miss in cc)
     in
     find_none-cons (is_row y.number) x pre (ne_eqb x.number y.number other) (apart_front pre y back apart.1)
   where
@@ -186,39 +186,39 @@ pub record LinkTells (q : Queue) (l w n : ℕ) : Type 0 where
 tells : (q : Queue) (l w n : ℕ) (front behind : List Row) → Apart same_number q.rows → rows_of q l ≡ front ++ behind → length front ≡ reach q w → Points n behind → LinkTells q l w n
 tells q l w n front behind apart whole long points = record {
   ends = λ none m e x found list low high.
-    let t = found_there q l e x found list in
-    let all : rows_of q l ≡ front ++ [] = whole ∙ ap (λ (zs : List Row). front ++ zs) (points_none n behind none points) in
-    let within : position_or_len (is_row e) (rows_of q l) < length (rows_of q l) = position_in (is_row e) (rows_of q l) x t.0 in
-    absurd (omega (arith, within, ap length all, length-append front [], long, low, t.1));
+      let t = found_there q l e x found list in
+      let all : rows_of q l ≡ front ++ [] = whole ∙ ap (λ (zs : List Row). front ++ zs) (points_none n behind none points) in
+      let within : position_or_len (is_row e) (rows_of q l) < length (rows_of q l) = position_in (is_row e) (rows_of q l) x t.0 in
+      absurd (omega (arith, within, ap length all, length-append front [], long, low, t.1));
   leads = λ r is.
-    let some : n ≢ 0 = λ e. omega (arith, e, is) in
-    let k = points_some n behind some points in
-    let y = k.row in
-    let number : y.number ≡ r = (let names = k.names in omega (arith, is, names)) in
-    let all : rows_of q l ≡ front ++ (k.mid ++ y ∷ k.back) = whole ∙ ap (λ (zs : List Row). front ++ zs) k.whole in
-    let all' : rows_of q l ≡ (front ++ k.mid) ++ y ∷ k.back = all ∙ sym (append_assoc front k.mid (y ∷ k.back)) in
-    let apart_list : Apart same_number (rows_of q l) = apart-filter same_number (is_of_list l) q.rows apart in
-    let none : find (is_row y.number) (front ++ k.mid) ≡ None = apart_front (front ++ k.mid) y k.back (subst (Apart same_number) all' apart_list) in
-    let hit : is_row y.number y ≡ true = eq-eqb y.number y.number refl in
-    let found_y : find (is_row y.number) (rows_of q l) ≡ Some y =
+      let some : n ≢ 0 = λ e. omega (arith, e, is) in
+      let k = points_some n behind some points in
+      let y = k.row in
+      let number : y.number ≡ r = (let names = k.names in omega (arith, is, names)) in
+      let all : rows_of q l ≡ front ++ (k.mid ++ y ∷ k.back) = whole ∙ ap (λ (zs : List Row). front ++ zs) k.whole in
+      let all' : rows_of q l ≡ (front ++ k.mid) ++ y ∷ k.back = all ∙ sym (append_assoc front k.mid (y ∷ k.back)) in
+      let apart_list : Apart same_number (rows_of q l) = apart-filter same_number (is_of_list l) q.rows apart in
+      let none : find (is_row y.number) (front ++ k.mid) ≡ None = apart_front (front ++ k.mid) y k.back (subst (Apart same_number) all' apart_list) in
+      let hit : is_row y.number y ≡ true = eq-eqb y.number y.number refl in
+      let found_y : find (is_row y.number) (rows_of q l) ≡ Some y =
       ap (find (is_row y.number)) all' ∙ find-behind (is_row y.number) (front ++ k.mid) (y ∷ k.back) none ∙ find-here (is_row y.number) y k.back hit
-    in
-    let mine = row_of_list l y.number q.rows y apart found_y in
-    let there = found_there q l y.number y mine.0 mine.1 in
-    let place : place_at q y.number ≡ length (front ++ k.mid) + position_or_len (is_row y.number) (y ∷ k.back) =
+      in
+      let mine = row_of_list l y.number q.rows y apart found_y in
+      let there = found_there q l y.number y mine.0 mine.1 in
+      let place : place_at q y.number ≡ length (front ++ k.mid) + position_or_len (is_row y.number) (y ∷ k.back) =
       there.1 ∙ ap (position_or_len (is_row y.number)) all' ∙ position-behind (is_row y.number) (front ++ k.mid) (y ∷ k.back) none
-    in
-    let first : position_or_len (is_row y.number) (y ∷ k.back) ≡ 0 = position-here (is_row y.number) y k.back hit in
-    let at : place_at q y.number ≡ length front + length k.mid = omega (arith, place, first, length-append front k.mid) in
-    let gone : AreDeleted q l (reach q w) (place_at q y.number) = λ e x found list low high.
+      in
+      let first : position_or_len (is_row y.number) (y ∷ k.back) ≡ 0 = position-here (is_row y.number) y k.back hit in
+      let at : place_at q y.number ≡ length front + length k.mid = omega (arith, place, first, length-append front k.mid) in
+      let gone : AreDeleted q l (reach q w) (place_at q y.number) = λ e x found list low high.
       let t = found_there q l e x found list in
       let here : find (is_row e) (front ++ (k.mid ++ y ∷ k.back)) ≡ Some x = subst (λ (zs : List Row). find (is_row e) zs ≡ Some x) all t.0 in
       let pos : place_at q e ≡ position_or_len (is_row e) (front ++ (k.mid ++ y ∷ k.back)) = t.1 ∙ ap (position_or_len (is_row e)) all in
       all-find (λ z. z.state ≡ Deleted) (is_row e) k.mid x k.gone
       (middle_found (is_row e) front k.mid (y ∷ k.back) x here (omega (arith, low, long, pos)) (omega (arith, high, at, pos)))
-    in
-    subst (λ (s : ℕ). IsOfList q l s × (reach q w ≤ place_at q s) × AreDeleted q l (reach q w) (place_at q s)) number
-    ((y, mine.0, mine.1), omega (arith, at, long), gone);
+      in
+      subst (λ (s : ℕ). IsOfList q l s × (reach q w ≤ place_at q s) × AreDeleted q l (reach q w) (place_at q s)) number
+      ((y, mine.0, mine.1), omega (arith, at, long), gone);
 }
 
 -- what the link of a stop shows in words that stand for the queue tells
@@ -231,8 +231,8 @@ link_tells t q l (suc r) s inside stop =
     let whole : rows_of q l ≡ (k.front ++ stop.0 ∷ []) ++ k.back = k.whole ∙ sym (append_assoc k.front (stop.0 ∷ []) k.back) in
     let place = k.place in
     let points : Points (slice_index t.words (row_link_of r)) k.back =
-      subst (λ (n : ℕ). Points (slice_index t.words (row_link_of n)) k.back) number
-      (row_points t.words (slice_index t.words (head_of t.rows l)) k.front stop.0 k.back (subst (Chain t.words (slice_index t.words (head_of t.rows l))) k.whole (s.links l inside)))
+    subst (λ (n : ℕ). Points (slice_index t.words (row_link_of n)) k.back) number
+    (row_points t.words (slice_index t.words (head_of t.rows l)) k.front stop.0 k.back (subst (Chain t.words (slice_index t.words (head_of t.rows l))) k.whole (s.links l inside)))
     in
     tells q l (suc r) (slice_index t.words (row_link_of r)) (k.front ++ stop.0 ∷ []) k.back s.sound.rows_apart whole (omega (arith, place, there.1, length-append k.front (stop.0 ∷ []))) points
 

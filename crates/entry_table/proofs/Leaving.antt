@@ -18,7 +18,7 @@ use Rattle.queue_model.proofs.KeyedLemmas.{find-here, find-past, find_none-head,
 use Rattle.link_core.specs.Stands.{Stands}
 use Rattle.entry_table.specs.declared.view.Shape.{Shape}
 use Rattle.entry_table.specs.Rule.{table_at, Lies, Cargoes}
-use Rattle.entry_table.specs.Resting.{is_live, live, rests, Legible, Waits, AllWait, Settled, Rested, AreRests}
+use Rattle.entry_table.specs.Resting.{is_live, live, rests, Legible, Waits, AllWait, Settled, Rested, AreGathered}
 use Rattle.acts_core.specs.declared.cargoes.RestEntry.{RestEntry}
 use Rattle.entry_table.proofs.Closing.{less_at, all_found, of_list}
 use Rattle.entry_table.proofs.Counting.{few, few_rows}
@@ -63,14 +63,14 @@ none_below q (suc l) r apart later = find_none_append (is_row r) (live (rows_of 
     out None e = find_none-filter (is_row r) (is_of_list l) q.rows e
     out (Some y) e = filter_out r (is_of_list l) q.rows y apart e (let h = later y e in ne_eqb y.slip.list l (λ z. omega (arith, h, z)))
 
-all_live : (P : Row → Type 0) (xs : List Row) → AllByRecursion P xs → AllByRecursion P (live xs)
+pub all_live : (P : Row → Type 0) (xs : List Row) → AllByRecursion P xs → AllByRecursion P (live xs)
 all_live P [] all = tt
 all_live P (x ∷ xs) all = ⊎_elim
     (λ (hit : is_live x.state ≡ true). subst (AllByRecursion P) (sym (cond-true (is_live x.state) (x ∷ live xs) (live xs) hit)) (all.0, all_live P xs all.1))
     (λ (miss : is_live x.state ≡ false). subst (AllByRecursion P) (sym (cond-false (is_live x.state) (x ∷ live xs) (live xs) miss)) (all_live P xs all.1))
     (cases_Bool (is_live x.state))
 
-all_to : (P Q : Row → Type 0) (xs : List Row) → ((x : Row) → P x → Q x) → AllByRecursion P xs → AllByRecursion Q xs
+pub all_to : (P Q : Row → Type 0) (xs : List Row) → ((x : Row) → P x → Q x) → AllByRecursion P xs → AllByRecursion Q xs
 all_to P Q [] f all = tt
 all_to P Q (x ∷ xs) f all = (f x all.0, all_to P Q xs f all.1)
 
@@ -162,5 +162,5 @@ module _ {C : Type 0} (load : C → Load) where
   pub starts : (q : Queue) (l : ℕ) (es : List (RestEntry C)) (ps : List (Option C)) → es ≡ [] → l ≡ q.lists → AllWait load ps (rests q.lists q) → Rested load q l es ps
   starts q l es ps none all wait = subst (λ (z : ℕ × List (RestEntry C)). Rested load q z.0 z.1 ps) (λ i. (sym all i, sym none i)) (record { front = []; whole = refl; done = tt; wait = wait })
 
-  pub finishes : (q : Queue) (es : List (RestEntry C)) (ps : List (Option C)) → Rested load q 0 es ps → AreRests load es (rests q.lists q)
-  finishes q es ps r = subst (AreRests load es) (sym (r.whole ∙ append-nil r.front)) r.done
+  pub finishes : (q : Queue) (es : List (RestEntry C)) (ps : List (Option C)) → Rested load q 0 es ps → AreGathered load es (rests q.lists q)
+  finishes q es ps r = subst (AreGathered load es) (sym (r.whole ∙ append-nil r.front)) r.done

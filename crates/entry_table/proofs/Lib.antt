@@ -11,6 +11,8 @@ pub mod Entering
 pub mod Places
 pub mod Joining
 pub mod Seeking
+pub mod Laying
+pub mod Ends
 pub mod Splitting
 pub mod Ending
 pub mod Changing
@@ -18,6 +20,7 @@ pub mod Opening
 pub mod Counting
 pub mod Closing
 pub mod Leaving
+pub mod Remaining
 pub mod Exchanging
 pub mod Outs
 pub mod Tailing
@@ -25,3 +28,4 @@ pub mod Giving
 pub mod Bringing
 pub mod Sighting
 pub mod Following
+pub mod Later

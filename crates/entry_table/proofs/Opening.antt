@@ -27,6 +27,7 @@ use Rattle.entry_table.specs.declared.view.Shape.{Shape}
 use Rattle.entry_table.specs.declared.view.View.{View}
 use Rattle.entry_table.specs.Views.{Has, caller_of, state_in, drawing_at}
 use Rattle.entry_table.specs.Rule.{below, boss, table_at, Bare, Cargoes, Each, Knows, Serves, Tells, Drafted, Unwritten, Takes, Holds, Away, Alone, Counts, RuledAt, Ruled, allowance, share}
+use Rattle.entry_table.specs.Plays.{opened_view, opened as opened_by}
 use Rattle.entry_table.proofs.Frames.{at_less, sum_views}
 use Rattle.entry_table.proofs.Parting.{has_append}
 use Rattle.entry_table.proofs.Slots.{not_out}
@@ -149,15 +150,12 @@ module _ {C : Type 0} (load : C → Load) (shape : Shape) where
       )
 
   -- a pass that is alone makes what it has seen its opening
-  abbrev pub rebased_view : View → View
-  rebased_view v = record v { opening = after v.opening v.seen; told = []; seen = []; shown = [] }
-
-  pub rebases_allowed : (slots id i : ℕ) (m : Me (Option C) View) (h : ℕ) (ended : List ℕ) → m.0.callers ≡ h ∷ ended → m.0.alone ≡ true → m.0.slot ≡ None
-      → Allows (Ruled load shape) slots id m i (λ n. n) (λ n m'. (m'.1 ≡ m.1) × (m'.0 ≡ rebased_view m.0))
-  rebases_allowed slots id i m h ended is one idle s ruled len at low =
+  pub opens_allowed : (slots id i : ℕ) (m : Me (Option C) View) (h : ℕ) (ended : List ℕ) → m.0.callers ≡ h ∷ ended → m.0.alone ≡ true → m.0.slot ≡ None
+      → Allows (Ruled load shape) slots id m i (λ n. n) (opened_by m)
+  opens_allowed slots id i m h ended is one idle s ruled len at low =
       let v : View = m.0 in
       let r = opened load shape s id v h ended is at ruled in
-      let w : View = rebased_view v in
+      let w : View = opened_view v in
       let lone = r.alone id v at one in
       let all : v.seen ≡ r.history = lone.1 in
       let O : Queue = after v.opening v.seen in

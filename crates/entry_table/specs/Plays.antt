@@ -114,6 +114,11 @@ reserved size m n m' = (m'.1 ≡ m.1) × Deepens m.0 m'.0 (steps.Reserve size) (
 abbrev pub gave_back : {S : Type 0} → ℕ → Me S View → ℕ → Me S View → Type 0
 gave_back size m n m' = (m'.1 ≡ m.1) × Deepens m.0 m'.0 (steps.GiveBack size) (acts.GiveBack size) (m.0.allowance + 1) n (n - (entry_worth + size))
 
+-- An entry of this size was reserved.
+pub record DidReserve (v w : View) (size : ℕ) : Type 0 where
+  pub went : Went v w (by_me v (acts.Reserve size) ∷ [])
+  pub view : w ≡ record v { allowance = v.allowance - 1; told = []; seen = w.seen; shown = w.shown }
+
 -- Draws of rows
 
 -- the view after a draw of row t
@@ -261,6 +266,15 @@ pub record DidSplit (v w u : View) (cs : List ℕ) (n : ℕ) : Type 0 where
   pub went : Went v w []
   pub boss : w ≡ record v { made = v.made + 1; alone = false; consumers = not_in cs v.consumers; allowance = v.allowance - n; share = v.share - n; told = []; seen = w.seen }
   pub new : u ≡ record { shape = v.shape; opening = v.opening; callers = v.made ∷ []; made = 0; alone = false; consumers = cs; allowance = n; share = n; reached = v.reached; drawn = []; slot = None; told = []; seen = w.seen; shown = [] }
+
+-- The opening
+
+-- the view after the opening was laid down: the state that the pass had seen
+abbrev pub opened_view : View → View
+opened_view v = record v { opening = state_in v; told = []; seen = []; shown = [] }
+
+abbrev pub opened : {S : Type 0} → Me S View → ℕ → Me S View → Type 0
+opened m n m' = (m'.1 ≡ m.1) × (m'.0 ≡ opened_view m.0)
 
 -- Slots
 

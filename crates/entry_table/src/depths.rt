@@ -4,8 +4,8 @@ ghost use Rattle.queue_model.specs.declared.deeds.Act.TheVariants as acts;
 ghost use Rattle.queue_model.specs.declared.steps.Step.TheVariants as steps;
 ghost use Rattle.queue_model.specs.Packing.{entry_worth, pack_depth};
 ghost use Rattle.entry_table.specs.Views.{rest_of};
-ghost use Rattle.entry_table.specs.Plays.{DepthShown, reserved};
-ghost use Rattle.entry_table.specs.Passes.{IsPassOf, Kept, Did, ShowsDepth, allowance, share, drawn};
+ghost use Rattle.entry_table.specs.Plays.{DepthShown, DidReserve, reserved};
+ghost use Rattle.entry_table.specs.Passes.{IsPassOf, Kept, Did, ShowsDepth, view, allowance, share, drawn};
 
 use crate::entries::Entries;
 use crate::pass::Pass;
@@ -25,6 +25,7 @@ impl<C: Freight> Entries<C> {
         ensures kept { Kept pass.old pass.new }
         ensures rights { (allowance pass.old ≡ allowance pass.new + 1) × (share pass.new ≡ share pass.old) × (drawn pass.new ≡ drawn pass.old) }
         ensures did { Did pass.old pass.new (acts.Reserve size ∷ []) }
+        ensures reserved { DidReserve (view pass.old) (view pass.new) size }
         ensures depth { ShowsDepth pass.old pass.new (steps.Reserve size) (acts.Reserve size) (pack_depth result.entries result.bytes + (entry_worth + size)) result }
     {
         let mut seat = mem::replace(&mut pass.badge, Badge::blank()).into_seat::<Option<C>>();
@@ -44,6 +45,7 @@ impl<C: Freight> Entries<C> {
         requires allowance { 1 ≤ seat.old.me.0.allowance }
         ensures table { (seat.new.table_id ≡ seat.old.table_id) × (seat.new.id ≡ seat.old.id) }
         ensures told { reserved size seat.old.me result seat.new.me }
+        ensures reserves { DidReserve seat.old.me.0 seat.new.me.0 size }
         ensures depth { DepthShown caller seat.old.me.0 seat.new.me.0 (steps.Reserve size) (acts.Reserve size) (pack_depth (result / entry_worth) (result % entry_worth) + (entry_worth + size)) (record { entries = result / entry_worth; bytes = result % entry_worth }) }
     {
         let _caller = caller;

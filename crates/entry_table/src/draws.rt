@@ -2,7 +2,7 @@
 ghost use Rattle.std.specs.Prelude.{◌≡◌, ◌≤◌, ◌<◌, ◌+◌, [], ◌∷◌, None};
 ghost use Rattle.link_core.specs.Layout.{draft_of};
 ghost use Rattle.entry_table.specs.Views.{rest_of};
-ghost use Rattle.entry_table.specs.Plays.{draws, stored, stored_view, DidDraw, DrawAnswer, IsDrawnBy};
+ghost use Rattle.entry_table.specs.Plays.{draws, stored, stored_view, DidDraw, DrawAnswer, IsDrawnBy, Went};
 ghost use Rattle.entry_table.specs.Passes.{IsPassOf, Kept, Did, view, seen, allowance, share};
 
 use crate::draft::{Draft, Drawn};
@@ -81,6 +81,7 @@ impl<C: Freight> Entries<C> {
         ensures kept { Kept pass.old pass.new }
         ensures same { (draft.new.row ≡ draft.old.row) × (draft.new.cargo ≡ draft.old.cargo) }
         ensures did { Did pass.old pass.new [] }
+        ensures went { Went (view pass.old) (view pass.new) [] }
         ensures view { view pass.new ≡ stored_view (view pass.old) draft.old.row word value (seen pass.new) }
     {
         let mut seat = mem::replace(&mut pass.badge, Badge::blank()).into_seat::<Option<C>>();

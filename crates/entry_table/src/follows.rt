@@ -14,7 +14,11 @@ use queue_model::{Node, WordName};
 fn node_of(list: u32, stop: u64) -> Node
     ensures { result ≡ node_at list stop }
 {
-    if stop == 0 { Node::Head(list) } else { Node::Row(stop - 1) }
+    if stop == 0 {
+        Node::Head(list)
+    } else {
+        Node::Row(stop - 1)
+    }
 }
 
 impl<C: Freight> Entries<C> {

@@ -13,6 +13,7 @@ mod givings;
 mod homes;
 mod links;
 mod loads;
+mod making;
 mod pass;
 mod plays;
 mod rest;
@@ -25,3 +26,6 @@ pub use draft::{Draft, Drawn, Linking};
 pub use entries::Entries;
 pub use pass::Pass;
 pub use view::{Drawing, Ruling, Shape, Told, View};
+
+#[cfg(test)]
+mod tests;

@@ -177,6 +177,15 @@ impl<C> Play<Option<C>, View> for Settles {
     ghost then = { λ st. settled };
 }
 
+/// A load by which the pass that is alone makes what it has seen its opening.
+pub struct Opens;
+
+impl<C> Play<Option<C>, View> for Opens {
+    ghost use Rattle.entry_table.specs.Plays.{opened};
+
+    ghost then = { λ st. opened };
+}
+
 /// A note of what a pass has seen, cut from its view.
 pub struct Notes;
 

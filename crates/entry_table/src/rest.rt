@@ -1,5 +1,5 @@
 //! What a closed table leaves.
-ghost use Rattle.std.specs.Prelude.{[], ◌≡◌, ◌<◌, ◌≤◌, ℕ, ◌+◌, ◌*◌, slice_set, length, Some, None, vec_capacity, vec_len, slice_index_or, false, Option};
+ghost use Rattle.std.specs.Prelude.{[], ◌≡◌, ◌<◌, ◌≤◌, ℕ, ◌+◌, ◌*◌, slice_set, length, Some, None, vec_capacity, vec_len, slice_index_or, false, Option, map};
 ghost use Rattle.std.specs.Slots.{slots_items, slots_len, slots_filled, IsFull};
 ghost use mathlib.Core.Option.{some};
 ghost use lib.ListN.{get_elem?};
@@ -9,8 +9,10 @@ ghost use Rattle.queue_model.specs.declared.queues.Queue.{Queue};
 ghost use Rattle.queue_model.specs.Packing.{pack_state};
 ghost use Rattle.link_core.specs.Layout.{head_of, row_link_of, words_of};
 ghost use Rattle.link_core.specs.Stands.{Stands};
-ghost use Rattle.entry_table.specs.Resting.{IsRest, AreRests, Rested, Legible, Settled, IsFor, rests};
+ghost use Rattle.entry_table.specs.Resting.{IsRest, AreGathered, Rested, Legible, Settled, IsFor, rests};
 ghost use Rattle.queue_model.specs.History.{own};
+ghost use Rattle.acts_core.specs.Rest.{AreRests, left_of};
+ghost use Rattle.acts_core.specs.Sight.{Listed};
 ghost use Rattle.entry_table.specs.Views.{Has};
 ghost use Rattle.entry_table.specs.Passes.{IsPassOf, view, callers, state, seen};
 
@@ -128,13 +130,27 @@ fn gather_all<C: Freight>(
 }
 
 impl<C: Freight> Entries<C> {
-    /// Ends the table, for the boss into which all passes were joined. The rows that aren't deleted are left, in
-    /// queue order.
+    /// Ends the table, for the boss into which the passes of all callers that were made were joined. It gives
+    /// the rows that aren't deleted, in queue order, as they are after what the boss has seen, which is the whole
+    /// history: every deed of it is of a caller that was made. It takes no memory.
     pub fn close(self, boss: Pass) -> Vec<RestEntry<C>>
         requires table { IsPassOf self boss }
-        requires boss { (boss.caller ≡ 0) × ((k : ℕ) → k < (view boss).made → Has k (callers boss)) }
+        requires boss { boss.caller ≡ 0 }
+        requires every { (k : ℕ) → k < (view boss).made → Has k (callers boss) }
         requires settled { Settled (state boss) }
-        ensures rest { AreRests C.goods result.items (rests (state boss).lists (state boss)) }
+        ensures rest { AreRests Listed (state boss) (map (left_of C.goods) result.items) }
+        ensures callers { (k : ℕ) → (view boss).made ≤ k → own k (seen boss) ≡ [] }
+    {
+        self.gathered(boss)
+    }
+
+    // The rows that are left, from the last list down, each list by place.
+    fn gathered(self, boss: Pass) -> Vec<RestEntry<C>>
+        requires table { IsPassOf self boss }
+        requires boss { boss.caller ≡ 0 }
+        requires every { (k : ℕ) → k < (view boss).made → Has k (callers boss) }
+        requires settled { Settled (state boss) }
+        ensures rest { AreGathered C.goods result.items (rests (state boss).lists (state boss)) }
         ensures callers { (k : ℕ) → (view boss).made ≤ k → own k (seen boss) ≡ [] }
     {
         let Entries {

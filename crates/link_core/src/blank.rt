@@ -30,8 +30,14 @@ fn add_lists(words: &mut Vec<u64>, lists: u32) -> Result<(), AllocError>
     Ok(())
 }
 
-/// All words: no row is drawn, all lists are empty, and no bell is rung.
-fn fresh_words(alloc: Global, callers: u64, rows: u64, lists: u32) -> Result<Vec<u64>, AllocError>
+/// The words of a table in which nothing has happened: so many callers are made, no row is drawn, all lists are
+/// empty, and no bell is rung.
+pub fn fresh_words(
+    alloc: Global,
+    callers: u64,
+    rows: u64,
+    lists: u32,
+) -> Result<Vec<u64>, AllocError>
     ensures { IfOk result (λ words. words.items ≡ fresh_words callers rows lists) }
 {
     let mut words = Vec::new(alloc);

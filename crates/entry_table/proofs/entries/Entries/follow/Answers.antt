@@ -29,9 +29,9 @@ returns-else-word-eq0-clause-follows g c =
     let k = c.look-word.ensures in
     let node = c.node_of-node.ensures in
     (follows_some old new c.args.self.now.shape c.args.list c.args.stop n c.requires.table.shape c.requires.list c.requires.stop k.kept k.rights.0 k.rights.1 k.did
-      (subst (λ (m : Node). Shows (Load (names.Link m)) n (state new)) node k.shows)
-      (subst (λ (m : Node). shown new ≡ shown old ++ entry (Load (names.Link m)) n n (seen new) ∷ []) node k.shown)
-      c.if-word-eq0.false).0
+    (subst (λ (m : Node). Shows (Load (names.Link m)) n (state new)) node k.shows)
+    (subst (λ (m : Node). shown new ≡ shown old ++ entry (Load (names.Link m)) n n (seen new) ∷ []) node k.shown)
+    c.if-word-eq0.false).0
 
 pub returns-else-word-eq0-clause-low : goal.returns-else-word-eq0-clause-low
 returns-else-word-eq0-clause-low g c =
@@ -41,6 +41,6 @@ returns-else-word-eq0-clause-low g c =
     let k = c.look-word.ensures in
     let node = c.node_of-node.ensures in
     (follows_some old new c.args.self.now.shape c.args.list c.args.stop n c.requires.table.shape c.requires.list c.requires.stop k.kept k.rights.0 k.rights.1 k.did
-      (subst (λ (m : Node). Shows (Load (names.Link m)) n (state new)) node k.shows)
-      (subst (λ (m : Node). shown new ≡ shown old ++ entry (Load (names.Link m)) n n (seen new) ∷ []) node k.shown)
-      c.if-word-eq0.false).1
+    (subst (λ (m : Node). Shows (Load (names.Link m)) n (state new)) node k.shows)
+    (subst (λ (m : Node). shown new ≡ shown old ++ entry (Load (names.Link m)) n n (seen new) ∷ []) node k.shown)
+    c.if-word-eq0.false).1

@@ -1,5 +1,6 @@
 use Rattle.std.proofs.Common.{rules, refl, arith, ap}
 use Rattle.entry_table.specs.Views.{caller_of, rest_of}
+use Rattle.entry_table.proofs.Laying.{did_reserve}
 use Rattle.entry_table.proofs.Reserving.{reserves_told, told_depth}
 use Rattle.entry_table.proofs.entries.Entries.reserve_at.Goals as goal
 
@@ -15,3 +16,6 @@ returns-clause-told g c = c.fetch_add.ensures.2 c.args.size refl
 
 pub returns-clause-depth : goal.returns-clause-depth
 returns-clause-depth g c = told_depth c.args.caller c.args.seat.now.me.0 _ _ _ _ _ _ _ (ap caller_of c.requires.caller) (omega arith) (c.fetch_add.ensures.2 c.args.size refl).1
+
+pub returns-clause-reserves : goal.returns-clause-reserves
+returns-clause-reserves g c = did_reserve c.args.seat.now.me.0 _ c.args.size _ _ c.requires.idle (c.fetch_add.ensures.2 c.args.size refl).1

@@ -1,0 +1,9 @@
+pub mod Stories
+pub mod Played
+pub mod Accounts
+pub mod Carry
+pub mod Texts
+pub mod Phases
+pub mod Last
+pub mod Laws
+pub mod Row25

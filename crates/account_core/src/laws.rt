@@ -1,0 +1,41 @@
+//! Laws on accounts. No program needs to call them: each has its laws as its contract.
+ghost use Rattle.account_core.specs.Laws.{AccountTold, CarryFrees, CarryKeeps, ClosedPlayed, DequeuedOnce, GotCounts, LogTold, OneState, PhasesAppend, TextAppend};
+ghost use Rattle.account_core.specs.Last.{LastTouch};
+ghost use Rattle.account_core.specs.Row25.{Row25Runs, Row25Text};
+
+/// What no history has: an entry with two holders, or one that is dequeued twice; and how a row came into its state.
+pub fn histories()
+    ensures one_state { OneState }
+    ensures dequeued_once { DequeuedOnce }
+    ensures last_touch { LastTouch }
+{}
+
+/// What the number of a delivery counts, over releases and carries.
+pub fn deliveries()
+    ensures got_counts { GotCounts }
+    ensures carry_keeps { CarryKeeps }
+    ensures carry_frees { CarryFrees }
+{}
+
+/// The text of a phase is that of its account.
+pub fn texts()
+    ensures log { LogTold }
+    ensures account { AccountTold }
+{}
+
+/// What the passes of a queue tell of its phase, when they were joined and it was closed.
+pub fn queues()
+    ensures { ClosedPlayed }
+{}
+
+/// Phases, one after the other.
+pub fn runs()
+    ensures phases { PhasesAppend }
+    ensures text { TextAppend }
+{}
+
+/// An account of two phases with a rest between them: its text, and that it is one.
+pub fn put_take_rest_take()
+    ensures text { Row25Text }
+    ensures runs { Row25Runs }
+{}

@@ -1,0 +1,179 @@
+-- one exchange of a row's state
+use Rattle.std.proofs.Common.{◌≡◌, ◌≢◌, ℕ, ◌+◌, ◌<◌, ◌≤◌, ◌==◌, ◌&&◌, Bool, true, false, Ok, Err, Option, Some, None, List, [], ◌∷◌, ◌++◌, refl, sym, ap, ap₂, ◌∙◌, subst, ⊎_elim, append_assoc, append-nil, eq-eqb, ne_eqb, arith}
+use Rattle.std.specs.Int.{bit_at}
+use Rattle.std.specs.Option.{option_map}
+use mathlib.Core.List.{IsPrefix}
+use Rattle.queue_model.specs.declared.deeds.Act.TheVariants as acts
+use Rattle.queue_model.specs.declared.deeds.Deed.{Deed}
+use Rattle.queue_model.specs.declared.queues.Queue.{Queue}
+use Rattle.queue_model.specs.declared.rows.Row.{Row}
+use Rattle.queue_model.specs.declared.rows.RowState.{RowState}
+use Rattle.queue_model.specs.declared.rows.RowState.TheVariants.{Available, Locked, Unlocked, Dequeued, Deleted}
+use Rattle.queue_model.specs.declared.rows.Slip.{Slip}
+use Rattle.queue_model.specs.declared.steps.Change.TheVariants as changes
+use Rattle.queue_model.specs.declared.steps.DraftWord.TheVariants as drafts
+use Rattle.queue_model.specs.declared.steps.Step.TheVariants as steps
+use Rattle.queue_model.specs.declared.steps.Tried.{Tried}
+use Rattle.queue_model.specs.declared.steps.WordName.TheVariants as names
+use Rattle.queue_model.specs.History.{after, deed}
+use Rattle.queue_model.specs.Packing.{pack_state}
+use Rattle.queue_model.specs.State.{row_at}
+use Rattle.queue_model.proofs.Prefixes.{prefix_trans}
+use Rattle.queue_model.proofs.Stable.{row_stays}
+use Rattle.link_core.specs.Steps.{act_with, goes_to}
+use Rattle.acts_core.specs.Load.{Load}
+use Rattle.acts_core.specs.Moments.{HandsOut}
+use Rattle.acts_core.specs.Owed.{is_available, is_free}
+use Rattle.acts_core.specs.Sight.{Sight}
+use Rattle.acts_core.specs.Steps.{Stepped, NoHeads}
+use Rattle.acts_core.specs.Walks.{FreeTo, Ready, Misses}
+use Rattle.acts_core.proofs.Sparing.{after_rest}
+use Rattle.acts_core.proofs.Stepping.{stepped_trans, rights_trans, no_head-append}
+use Rattle.entry_table.specs.declared.pass.Pass.{Pass}
+use Rattle.entry_table.specs.declared.view.View.{View}
+use Rattle.entry_table.specs.Passes.{Kept, Did, view, opening, seen, shown, allowance, share, callers, consumers}
+use Rattle.entry_table.specs.Plays.{Taking, Steps, Went, Shows}
+use Rattle.entry_table.specs.Rule.{Carries}
+use Rattle.entry_table.specs.Sights.{sight}
+use Rattle.entry_table.specs.Views.{entry, caller_of}
+use Rattle.entry_table.proofs.Sighting.{stepped, same_rights}
+use Rattle.cursor_core.specs.Takes.{Acquires, TakesReady, AcquiresFree, TakesFree}
+
+mine : (old : Pass) → caller_of (callers old) ≡ old.caller
+mine old = ap caller_of old.speaks
+
+-- the exchange hit
+pub acquired : {C : Type 0} (load : C → Load) (old new : Pass) (row : ℕ) (c : C) → Kept old new → allowance new ≡ allowance old → share new ≡ share old → Taking load row changes.Acq Available (view old) (view new) (Ok c) → Acquires (sight old) (sight new) row (load c)
+acquired load old new row c k a s t =
+    let u = t.0 in
+    let x = t.1 in
+    let d = t.3 in
+    let slot = t.4 in
+    let me = mine old in
+    let same_seen : seen new ≡ u.seen = ap (λ (v : View). v.seen) slot.1 in
+    let told : u.seen ≡ d.before ++ deed (caller_of (callers old)) (acts.Acq row) ∷ [] = ap (λ (v : View). v.seen) d.view in
+    let whole : d.before ++ deed old.caller (acts.Acq row) ∷ [] ≡ seen new =
+    ap (λ (h : ℕ). d.before ++ deed h (acts.Acq row) ∷ []) (sym me) ∙ sym told ∙ sym same_seen
+    in
+    let first : Tried = entry (steps.State row changes.Acq Available) (pack_state Available) (pack_state (goes_to (caller_of (callers old)) changes.Acq)) (d.before ++ deed (caller_of (callers old)) (acts.Acq row) ∷ []) in
+    let second : Tried = entry (steps.Load names.Callers) slot.0 slot.0 u.seen in
+    let log : shown new ≡ shown old ++ (first ∷ second ∷ []) =
+    ap (λ (v : View). v.shown) slot.1
+    ∙ ap (λ (l : List Tried). l ++ second ∷ []) (ap (λ (v : View). v.shown) d.view)
+    ∙ append_assoc (shown old) (first ∷ []) (second ∷ [])
+    in
+    let went : Steps (opening old) old.caller (callers old) (consumers old) (seen old) (seen new) (deed old.caller (acts.Acq row) ∷ []) =
+    subst (λ (ds : List Deed). Steps (opening old) old.caller (callers old) (consumers old) (seen old) ds (deed old.caller (acts.Acq row) ∷ [])) (sym same_seen)
+    (subst (λ (h : ℕ). Steps (opening old) h (callers old) (consumers old) (seen old) u.seen (deed h (acts.Acq row) ∷ [])) me d.went.steps)
+    in
+    record {
+      added = first ∷ second ∷ [];
+      steps = stepped old new (acts.Acq row ∷ []) (first ∷ second ∷ []) k went log;
+      rights = same_rights old new a s;
+      heads = λ m. refl;
+      moment = d.before;
+      later = d.prefix;
+      whole = whole;
+      hands = record { row = x; found = d.found; same = record { id = t.2.id; size = t.2.size; count = t.2.count; content = t.2.content; origin = t.2.origin } };
+      ready = d.state;
+    }
+
+-- it showed another state
+other_state : (s : RowState) → s ≢ Available → is_available s ≡ false
+other_state Available ne = absurd (ne refl)
+other_state (Locked h) ne = refl
+other_state (Unlocked h) ne = refl
+other_state Dequeued ne = refl
+other_state Deleted ne = refl
+
+pub missed : {C : Type 0} (load : C → Load) (old new : Pass) (row : ℕ) (s : RowState) → Kept old new → allowance new ≡ allowance old → share new ≡ share old → Taking load row changes.Acq Available (view old) (view new) (Err s) → Misses (sight old) (sight new) Ready row
+missed load old new row s k a sh t =
+    let me = mine old in
+    let one : Tried = entry (steps.State row changes.Acq Available) (pack_state s) (pack_state s) (seen new) in
+    let log : shown new ≡ shown old ++ one ∷ [] = ap (λ (v : View). v.shown) t.view in
+    let went : Steps (opening old) old.caller (callers old) (consumers old) (seen old) (seen new) [] =
+    subst (λ (h : ℕ). Steps (opening old) h (callers old) (consumers old) (seen old) (seen new) []) me t.went.steps
+    in
+    record {
+      added = one ∷ [];
+      steps = stepped old new [] (one ∷ []) k went log;
+      rights = same_rights old new a sh;
+      heads = λ m. refl;
+      fails = λ x found.
+          let both : Some x ≡ Some t.state.0 = sym found ∙ t.state.1 in
+          let same : x ≡ t.state.0 = cc in
+          ap (λ (z : Row). is_available z.state) same ∙ ap is_available t.state.2 ∙ other_state s t.other;
+    }
+
+-- Masks
+
+-- the mask word of a row shows its slip's mask
+mask_told : (q : Queue) (row mask : ℕ) (x : Row) → Shows (steps.Load (names.Draft row drafts.Mask)) mask q → row_at q row ≡ Some x → x.slip.mask ≡ mask
+mask_told q row mask x s found = sym (s.1.drafted row x found).mask ∙ s.2
+
+-- the load of a mask
+pub looked_mask : (old new : Pass) (row mask : ℕ) → Kept old new → allowance new ≡ allowance old → share new ≡ share old → Did old new [] → shown new ≡ shown old ++ entry (steps.Load (names.Draft row drafts.Mask)) mask mask (seen new) ∷ [] → Stepped (sight old) (sight new) [] (entry (steps.Load (names.Draft row drafts.Mask)) mask mask (seen new) ∷ [])
+looked_mask old new row mask k a s d e = stepped old new [] (entry (steps.Load (names.Draft row drafts.Mask)) mask mask (seen new) ∷ []) k d e
+
+-- a row that the consumer does not want
+pub unwanted : (old new : Pass) (c row mask : ℕ) → Kept old new → allowance new ≡ allowance old → share new ≡ share old → Did old new [] → Shows (steps.Load (names.Draft row drafts.Mask)) mask (after (opening new) (seen new)) → shown new ≡ shown old ++ entry (steps.Load (names.Draft row drafts.Mask)) mask mask (seen new) ∷ []
+    → bit_at mask c ≢ 1 → Misses (sight old) (sight new) (FreeTo c) row
+unwanted old new c row mask k a s d shows e none = record {
+  added = entry (steps.Load (names.Draft row drafts.Mask)) mask mask (seen new) ∷ [];
+  steps = looked_mask old new row mask k a s d e;
+  rights = same_rights old new a s;
+  heads = λ m. refl;
+  fails = λ x found.
+      let here : row_at (after (opening new) (seen new)) row ≡ Some x = subst (λ (o : Queue). row_at (after o (seen new)) row ≡ Some x) (sym k.opening) found in
+      let same : x.slip.mask ≡ mask = mask_told (after (opening new) (seen new)) row mask x shows here in
+      ap (λ (b : Bool). is_available x.state && b) (ne_eqb (bit_at x.slip.mask c) 1 (λ hit. none (ap (λ (n : ℕ). bit_at n c) (sym same) ∙ hit))) ∙ and_false (is_available x.state);
+}
+  where
+    and_false : (b : Bool) → (b && false) ≡ false
+    and_false true = refl
+    and_false false = refl
+
+-- a row that it wants
+wanted_free : (c : ℕ) (x : Row) → x.state ≡ Available → bit_at x.slip.mask c ≡ 1 → is_free c x ≡ true
+wanted_free c x ready bit = ap₂ (λ (b d : Bool). b && d) (ap is_available ready) (eq-eqb (bit_at x.slip.mask c) 1 bit)
+
+-- the row's mask is what it was when loaded
+later_mask : (old mid : Pass) (row mask : ℕ) (moment : List Deed) (x y : Row) → Kept old mid → Shows (steps.Load (names.Draft row drafts.Mask)) mask (after (opening mid) (seen mid)) → row_at (after (opening mid) (seen mid)) row ≡ Some y → IsPrefix (seen mid) moment → row_at (after (opening mid) moment) row ≡ Some x → x.slip.mask ≡ mask
+later_mask old mid row mask moment x y k shows there p found =
+    let t = row_stays (after (opening mid) (seen mid)) p.0 row y there in
+    let here : row_at (after (opening mid) moment) row ≡ Some t.0 = subst (λ (q : Queue). row_at q row ≡ Some t.0) (after_rest (opening mid) (seen mid) moment p) t.1 in
+    let both : Some t.0 ≡ Some x = sym here ∙ found in
+    let same : t.0 ≡ x = cc in
+    ap (λ (z : Row). z.slip.mask) (sym same) ∙ ap (λ (z : Slip). z.mask) t.2.slip ∙ mask_told (after (opening mid) (seen mid)) row mask y shows there
+
+-- a wanted row is tried
+pub tries_free : (old mid new : Pass) (c row mask : ℕ) (y : Row) (o : Option Load) → Kept old mid → allowance mid ≡ allowance old → share mid ≡ share old → Did old mid [] → Shows (steps.Load (names.Draft row drafts.Mask)) mask (after (opening mid) (seen mid)) → shown mid ≡ shown old ++ entry (steps.Load (names.Draft row drafts.Mask)) mask mask (seen mid) ∷ []
+    → bit_at mask c ≡ 1 → row_at (after (opening mid) (seen mid)) row ≡ Some y → TakesReady (sight mid) (sight new) row o → TakesFree (sight old) (sight new) c row o
+tries_free old mid new c row mask y None k a s d shows e bit there t =
+    let us = entry (steps.Load (names.Draft row drafts.Mask)) mask mask (seen mid) ∷ [] in
+    record {
+      added = us ++ t.added;
+      steps = stepped_trans (sight old) (sight mid) (sight new) [] [] us t.added (looked_mask old mid row mask k a s d e) t.steps;
+      rights = rights_trans (sight old) (sight mid) (sight new) (same_rights old mid a s) t.rights;
+      heads = λ m. no_head-append m us t.added refl (t.heads m);
+      fails = λ x found.
+          let here : row_at (after (opening mid) (seen new)) row ≡ Some x = subst (λ (q : Queue). row_at (after q (seen new)) row ≡ Some x) (sym k.opening) found in
+          ap (λ (b : Bool). b && (bit_at x.slip.mask c == 1)) (t.fails x here);
+    }
+tries_free old mid new c row mask y (Some load) k a s d shows e bit there t =
+    let us = entry (steps.Load (names.Draft row drafts.Mask)) mask mask (seen mid) ∷ [] in
+    let mask_then = later_mask old mid row mask t.moment t.hands.row y k shows there t.later t.hands.found in
+    record {
+      acquires = record {
+        added = us ++ t.added;
+        steps = stepped_trans (sight old) (sight mid) (sight new) [] (acts.Acq row ∷ []) us t.added (looked_mask old mid row mask k a s d e) t.steps;
+        rights = rights_trans (sight old) (sight mid) (sight new) (same_rights old mid a s) t.rights;
+        heads = λ m. no_head-append m us t.added refl (t.heads m);
+        moment = t.moment;
+        later = prefix_trans (seen old) (seen mid) t.moment d.prefix t.later;
+        whole = subst (λ (h : ℕ). t.moment ++ deed h (acts.Acq row) ∷ [] ≡ seen new) k.caller t.whole;
+        hands = record { row = t.hands.row; found = subst (λ (o : Queue). row_at (after o t.moment) row ≡ Some t.hands.row) k.opening t.hands.found; same = t.hands.same };
+        ready = t.ready;
+      };
+      free = wanted_free c t.hands.row t.ready (ap (λ (n : ℕ). bit_at n c) mask_then ∙ bit);
+    }

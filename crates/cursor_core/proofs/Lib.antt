@@ -1,0 +1,3 @@
+pub mod Acquiring
+pub mod Getting
+pub mod Calling

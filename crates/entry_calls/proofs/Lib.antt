@@ -1,0 +1,4 @@
+pub mod Changes
+pub mod Replying
+pub mod Dequeuing
+pub mod Naming

@@ -1,0 +1,5 @@
+pub mod Hands
+pub mod Places
+pub mod Fits
+pub mod Runs
+pub mod Laws

@@ -1,0 +1,37 @@
+-- consumers, and what a delivery tells
+use Rattle.std.specs.Prelude.{◌≡◌, ℕ, ◌+◌, ◌-◌, ◌≤◌, Bool, false, nat_lt, nat_le, if◌then◌else◌, Option, Some, None, List, [], ◌∷◌, length}
+use Rattle.acts_core.specs.Load.{Load}
+use Rattle.message_core.specs.Spelling.{Content, content}
+use Rattle.defs_read.specs.Defined.{Defined}
+use Rattle.target_core.specs.Seats.{Seat, Seats, left_of, seat_at, sum_of}
+use Rattle.target_core.specs.declared.deliveries.Delivery.{Delivery}
+
+-- the queue of consumer c, counted over all queues from queue q on, and its number there
+abbrev pub place_from : ℕ → List Defined → ℕ → Option (ℕ × ℕ)
+place_from q [] c = None
+place_from q (def ∷ defs) c = if nat_lt c (length def.consumers) then Some (q, c) else place_from (q + 1) defs (c - length def.consumers)
+
+-- the queue of consumer c, and its number there
+abbrev pub place_of : List Defined → ℕ → Option (ℕ × ℕ)
+place_of defs c = place_from 0 defs c
+
+-- so many deliveries are as many as the limit
+abbrev pub is_at : Option ℕ → ℕ → Bool
+is_at None n = false
+is_at (Some limit) n = nat_le limit n
+
+-- the target takes no more
+abbrev pub is_full : Seat → Bool
+is_full s = is_at s.limit (length s.deliveries)
+
+-- The delivery of a cargo to consumer c for the n-th time. Where the cargo has its whole message, the delivery tells of
+-- the length and the sum of that message's body.
+pub record IsDelivery (c q n : ℕ) (load : Load) (d : Delivery) : Type 0 where
+  pub message : Content
+  pub whole : length load.content ≡ load.size → load.content ≡ content message
+  pub told : d ≡ record { consumer = c; queue = q; id = load.id; delivered = n; length = length message.body; sum = sum_of message.body }
+
+-- where a target stands, it has room for so many deliveries more, or for as many as its limit leaves
+abbrev pub IsReady : ℕ → Option Seat → Type 0
+IsReady n None = Unit {0}
+IsReady n (Some s) = left_of s.limit (length s.deliveries) n ≤ s.room
