@@ -11,3 +11,4 @@ mod recovery;
 
 pub use kept::{Kept, Recovered};
 pub use recovery::recover;
+
