@@ -1,6 +1,5 @@
 -- a call that ran no phase
-use Rattle.std.proofs.Common.{◌≡◌, ℕ, Some, List, [], ◌∷◌, ◌++◌, map, refl, ap, ◌∙◌}
-use Rattle.std.specs.Prelude.{Option}
+use Rattle.std.proofs.Common.{◌≡◌, ℕ, Some, List, [], ◌∷◌, map, refl, ap, ◌∙◌}
 use Rattle.defs_read.specs.Defined.{Defined}
 use Rattle.target_core.specs.Seats.{Seat, Seats, standing}
 use Rattle.account_core.specs.Accounts.{Account}

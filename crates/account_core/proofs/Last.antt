@@ -10,7 +10,7 @@ use Rattle.queue_model.specs.declared.rows.RowState.{RowState}
 use Rattle.queue_model.specs.declared.rows.RowState.TheVariants.{Available, Locked, Unlocked, Dequeued, Deleted}
 use Rattle.queue_model.specs.History.{after, Legal, own, is_by}
 use Rattle.queue_model.specs.State.{is_row, row_at, IsIn}
-use Rattle.queue_model.specs.Table.{Can, changed, in_state, left_in, acted, giving_back}
+use Rattle.queue_model.specs.Table.{Can, changed, in_state, left_in, acted}
 use Rattle.queue_model.proofs.Histories.{own-cons_mine}
 use Rattle.queue_model.proofs.KeyedLemmas.{find-append}
 use Rattle.queue_model.proofs.Owns.{changed_in}

@@ -1,10 +1,10 @@
 -- the accounts of put, take, rest, take
-use Rattle.std.proofs.Common.{arith, append-nil, eq-eqb, ne_eqb, ◌≡◌, ◌≢◌, ◌⊎◌, inl, inr, ℕ, zero, suc, ◌<◌, ◌≤◌, ◌+◌, ◌==◌, Option, Some, None, List, [], ◌∷◌, ◌++◌, refl, sym, ap, ◌∙◌, subst, slice_get, find}
+use Rattle.std.proofs.Common.{arith, append-nil, eq-eqb, ne_eqb, ◌≡◌, ◌≢◌, ◌⊎◌, inl, inr, ℕ, zero, suc, ◌<◌, ◌+◌, ◌==◌, Some, None, List, [], ◌∷◌, refl, sym, ap, subst, slice_get, find}
 use Rattle.std.specs.Int.{bit_at}
 use Rattle.std.specs.Fmt.{digits}
 use Rattle.std.proofs.lemmas.Nat.Bits.{bit_at_ones_above}
 use Rattle.std.proofs.lemmas.Bool.{cases_eq}
-use Rattle.queue_model.specs.declared.deeds.Act.TheVariants.{Reserve, Enq, Acq, Unlock}
+use Rattle.queue_model.specs.declared.deeds.Act.TheVariants.{Reserve, Enq, Acq}
 use Rattle.queue_model.specs.declared.deeds.Deed.{Deed}
 use Rattle.queue_model.specs.declared.rows.Row.{Row}
 use Rattle.queue_model.specs.declared.rows.RowState.TheVariants.{Available, Locked, Unlocked}
@@ -19,15 +19,14 @@ use Rattle.acts_core.specs.Meaning.{Meets}
 use Rattle.acts_core.specs.Rest.{Rests}
 use Rattle.script_read.specs.declared.lines.Op.{Op}
 use Rattle.target_core.specs.Seats.{Seat, Seats, seat_at}
-use Rattle.target_core.specs.declared.deliveries.Delivery.{Delivery}
 use Rattle.line_core.specs.Fits.{delivered}
 use Rattle.line_core.specs.Runs.{calls_on}
 use Rattle.account_core.specs.Accounts.{SeatsGo, Names, Uses, SameTarget}
 use Rattle.account_core.specs.Carry.{Opens}
-use Rattle.account_core.specs.Phases.{ArePhases, IsPhase}
+use Rattle.account_core.specs.Phases.{IsPhase}
 use Rattle.account_core.specs.Played.{Played, IsPlayed, IsByActor, Makes, rest_of}
 use Rattle.account_core.specs.Stories.{Story, IsStory, calls_of}
-use Rattle.account_core.specs.Row25.{one_queue, queue_q, message, slip, load, delivery, seat, seat_of, leaves, first, played_first, second, carried_row, played_second, Row25Text, Row25Runs}
+use Rattle.account_core.specs.Row25.{one_queue, queue_q, message, slip, load, delivery, seat_of, first, played_first, second, carried_row, played_second, Row25Text, Row25Runs}
 
 pub row25_text : Row25Text
 unfolding digits

@@ -15,7 +15,7 @@ use Rattle.account_core.specs.Carry.{carried, entries_of, handed_on}
 use Rattle.account_core.specs.Laws.{goods}
 use Rattle.account_core.specs.Played.{Played, rest_of}
 use Rattle.account_core.specs.Stories.{Story, told}
-use Rattle.account_core.specs.Texts.{LogsTell, RestsTell, account_text, actor_names, queue_names, queues_text, resting_in, story_text}
+use Rattle.account_core.specs.Texts.{LogsTell, RestsTell, account_text, actor_names, queue_names, queues_text, story_text}
 
 -- Logs
 

@@ -1,7 +1,6 @@
 -- an account of two phases with a rest between them: put 7, take; rest; take
-use Rattle.std.specs.Prelude.{◌≡◌, ℕ, true, false, Option, Some, None, List, [], ◌∷◌, ◌++◌, codes}
+use Rattle.std.specs.Prelude.{◌≡◌, ℕ, false, Some, None, List, [], ◌∷◌, codes}
 use Rattle.queue_model.specs.declared.deeds.Act.TheVariants.{Reserve, Enq, Acq, Unlock}
-use Rattle.queue_model.specs.declared.deeds.Deed.{Deed}
 use Rattle.queue_model.specs.declared.queues.Policy.TheVariants as policy
 use Rattle.queue_model.specs.declared.rows.Row.{Row}
 use Rattle.queue_model.specs.declared.rows.RowState.TheVariants.{Available}
@@ -15,7 +14,6 @@ use Rattle.message_core.specs.Spelling.{Content, content}
 use Rattle.defs_read.specs.Defined.{Defined}
 use Rattle.defs_read.specs.declared.defs.ConsumerDef.{ConsumerDef}
 use Rattle.defs_read.specs.declared.defs.QueueKind.TheVariants.{Standard}
-use Rattle.script_read.specs.declared.lines.Op.{Op}
 use Rattle.script_read.specs.declared.lines.What.TheVariants.{Put, Take}
 use Rattle.report_core.specs.declared.answers.Answer.TheVariants as say
 use Rattle.target_core.specs.Seats.{Seat, Seats}

@@ -1,5 +1,5 @@
 -- what an actor did in a phase
-use Rattle.std.specs.Prelude.{◌≡◌, ℕ, List, [], ◌∷◌, ◌++◌}
+use Rattle.std.specs.Prelude.{ℕ, List, [], ◌∷◌, ◌++◌}
 use Rattle.defs_read.specs.Defined.{Defined}
 use Rattle.script_read.specs.declared.lines.Op.{Op}
 use Rattle.report_core.specs.declared.answers.Answer.{Answer}

@@ -5,7 +5,7 @@ ghost use Rattle.broker_top.specs.Codes.{status_code};
 /// The status that the program ends with. docs/SCRIPT.md, "Statuses", says when each comes.
 #[derive(Clone, Copy, Debug, PartialEq, Eq)]
 pub enum Status {
-    /// The input was read to its end and all was done.
+    /// Nothing of the input is left, and everything that it asked for was carried out.
     Done,
     /// The input is too large, or a line of it is refused.
     InputRefused,

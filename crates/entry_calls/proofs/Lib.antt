@@ -1,5 +1,8 @@
 pub mod Changes
 pub mod Replying
 pub mod Dequeuing
+pub mod Running
+pub mod Turning
+pub mod Putting
 pub mod Naming
 pub mod Depthing

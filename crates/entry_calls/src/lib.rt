@@ -1,12 +1,14 @@
-//! Whole calls of a listed queue: put, lock, unlock, release, steal, dequeue and delete, each made of single
-//! steps on the table. docs/QUEUE-MODEL.md, "What a call means", says what each does and tells.
+//! Whole calls of a listed queue, each made of single steps on the table. docs/QUEUE-MODEL.md, "What a call
+//! means", says what each does and tells.
 #![tactic(auto)]
 
+mod appends;
 mod depths;
 mod finding;
 mod locks;
 mod removals;
 
+pub use appends::enqueue;
 pub use depths::{depth, give_back, reserve};
 pub use finding::find;
 pub use locks::{lock, release, steal, unlock};

@@ -1,22 +1,16 @@
 -- changes that bring the cargo home, and deletions, in the calls
-use Rattle.std.proofs.Common.{◌≡◌, ◌≢◌, ℕ, ◌+◌, ◌^◌, ◌<◌, ◌≤◌, eqb, List, [], ◌∷◌, ◌++◌, Option, Some, None, refl, sym, ap, ◌∙◌, subst, arith, inl, inr}
+use Rattle.std.proofs.Common.{◌≡◌, ℕ, ◌^◌, ◌<◌, eqb, List, [], ◌∷◌, Option, Some, None, refl, sym, ap, ◌∙◌, subst, arith, inr}
 use Rattle.std.specs.Prelude.{slice_index}
-use mathlib.Core.Option as maybe
-use mathlib.Core.List.{IsPrefix}
-use lib.ListN.{get_elem?}
 use prog.Atomic.{either}
 use Rattle.atomic_table.specs.Table.{State, Me, Allows, carried_after}
 use Rattle.queue_model.specs.declared.deeds.Act.TheVariants as acts
-use Rattle.queue_model.specs.declared.deeds.Deed.{Deed}
-use Rattle.queue_model.specs.declared.queues.Queue.{Queue}
-use Rattle.queue_model.specs.declared.rows.Row.{Row}
 use Rattle.queue_model.specs.declared.rows.RowState.{RowState}
 use Rattle.queue_model.specs.declared.rows.RowState.TheVariants.{Locked, Dequeued}
 use Rattle.queue_model.specs.declared.steps.Change.{Change}
 use Rattle.queue_model.specs.declared.steps.Change.TheVariants.{Acq, Lock, Unlock, Steal, Rel, Deq, Del}
-use Rattle.queue_model.specs.History.{after, Legal, own, deed}
+use Rattle.queue_model.specs.History.{after, own, deed}
 use Rattle.queue_model.specs.Packing.{pack_state}
-use Rattle.queue_model.specs.State.{row_at, IsIn}
+use Rattle.queue_model.specs.State.{IsIn}
 use Rattle.queue_model.proofs.Prefixes.{legal_prefix}
 use Rattle.acts_core.specs.Asked.{last_on, HasDequeued}
 use Rattle.acts_core.specs.Load.{Load}
@@ -26,13 +20,13 @@ use Rattle.link_core.specs.Layout.{state_of}
 use Rattle.link_core.specs.Steps.{goes_to, act_with}
 use Rattle.entry_table.specs.declared.view.Shape.{Shape}
 use Rattle.entry_table.specs.declared.view.View.{View}
-use Rattle.entry_table.specs.Views.{Has, caller_of, state_in, AllEnd, Mine}
+use Rattle.entry_table.specs.Views.{Has, caller_of, state_in, Mine}
 use Rattle.entry_table.specs.Rule.{Ruled}
-use Rattle.entry_table.specs.Plays.{by_me, Went, freed, DidChange, slotted_view, changed_view, AfterCall}
+use Rattle.entry_table.specs.Plays.{by_me, freed, DidChange, slotted_view, changed_view, AfterCall}
 use Rattle.entry_table.specs.Homes.{BringsHome, Holding, bringing, HomeReady, Brought, deleted}
 use Rattle.entry_table.proofs.Changing.{IsHome, Goods, frees_allowed, ends_allowed}
 use Rattle.entry_table.proofs.Joining.{after_went, is_later, went_slotted}
-use Rattle.entry_table.proofs.Keeping.{opened, now, me, has_me, knows_me, after_seen}
+use Rattle.entry_table.proofs.Keeping.{opened, has_me, knows_me}
 use Rattle.entry_table.proofs.Outs.{out_last, has_last, acted_row}
 
 is_home : (change : Change) → BringsHome change → IsHome change

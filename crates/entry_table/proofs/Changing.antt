@@ -1,8 +1,7 @@
 -- exchanges of a row's state
-use Rattle.std.proofs.Common.{◌≡◌, ◌≢◌, ℕ, zero, suc, ◌+◌, ◌*◌, ◌<◌, ◌≤◌, ◌⊎◌, eqb, List, [], ◌∷◌, ◌++◌, length, set, get_or, Option, Some, None, find, refl, sym, ap, ap₂, ◌∙◌, subst, ⊎_elim, arith, append-nil, length-set, inl, inr}
+use Rattle.std.proofs.Common.{◌≡◌, ◌≢◌, ℕ, ◌+◌, ◌<◌, ◌≤◌, eqb, List, [], ◌∷◌, ◌++◌, length, set, Option, Some, None, find, refl, sym, ap, ◌∙◌, subst, ⊎_elim, arith, length-set, inl, inr}
 use Rattle.std.specs.Prelude.{slice_index}
 use Rattle.std.specs.List.{sum_by}
-use Rattle.std.proofs.lemmas.Bool.{cases_eq}
 use mathlib.Core.Option as maybe
 use lib.ListN.{get_elem?}
 use prog.Atomic.{either}
@@ -21,7 +20,7 @@ use Rattle.queue_model.specs.declared.steps.Change.TheVariants.{Acq, Lock, Unloc
 use Rattle.queue_model.specs.declared.steps.DraftWord.{DraftWord}
 use Rattle.queue_model.specs.declared.steps.Node.TheVariants as nodes
 use Rattle.queue_model.specs.declared.steps.Step.TheVariants as steps
-use Rattle.queue_model.specs.History.{after, Legal, own, deed}
+use Rattle.queue_model.specs.History.{after, Legal, deed}
 use Rattle.queue_model.specs.Laws.{SameGoods, KeepsDepth}
 use Rattle.acts_core.specs.Load.{Load}
 use Rattle.queue_model.specs.State.{is_row, row_at, IsIn, entries}
@@ -32,7 +31,7 @@ use Rattle.queue_model.proofs.Owns.{own_acquired, own_locked, own_stolen}
 use Rattle.link_core.specs.Layout.{state_of, draft_of}
 use Rattle.queue_model.specs.Packing.{pack_state}
 use Rattle.link_core.specs.Stands.{Stands}
-use Rattle.link_core.specs.Steps.{FitsState, GoesFrom, IsPackable, goes_to, act_with, changed_by, reserved_after, size_in}
+use Rattle.link_core.specs.Steps.{FitsState, GoesFrom, IsPackable, goes_to, act_with, reserved_after, size_in}
 use Rattle.link_core.specs.Table.{Table, but}
 use Rattle.link_core.proofs.Changing.{state_step, row_of_change}
 use Rattle.link_core.proofs.Frames.{but_here, draft_low, draft_high, set_else}
@@ -40,11 +39,11 @@ use Rattle.link_core.proofs.Softening.{found_before, none_before}
 use Rattle.entry_table.specs.declared.view.Shape.{Shape}
 use Rattle.entry_table.specs.declared.view.View.{View}
 use Rattle.entry_table.specs.Views.{Has, caller_of, takes_of, EndsBy, AllEnd}
-use Rattle.entry_table.specs.Rule.{table_at, Carries, Full, Bare, Cargoes, Lies, Each, Takes, Holds, Away, RuledAt, Ruled, allowance, share}
+use Rattle.entry_table.specs.Rule.{table_at, Carries, Full, Cargoes, Lies, Each, Takes, Holds, Away, RuledAt, Ruled, allowance, share}
 use Rattle.entry_table.specs.Plays.{by_me, Went, changed_view, DidChange, took, freed, ended, looked, TakesOut, IsEnding}
-use Rattle.entry_table.proofs.Frames.{views_set, sum_views, drafts_set, takes_set, away_set}
-use Rattle.entry_table.proofs.Keeping.{Same, opened, now, me, drawn_low, has_me, knows_me, held_now, sees_all, ruled_next, went, mine_alone}
-use Rattle.entry_table.proofs.Looking.{Owes, miss_owes, by_found}
+use Rattle.entry_table.proofs.Frames.{sum_views, drafts_set, takes_set, away_set}
+use Rattle.entry_table.proofs.Keeping.{Same, opened, now, drawn_low, has_me, knows_me, held_now, sees_all, ruled_next, went, mine_alone}
+use Rattle.entry_table.proofs.Looking.{miss_owes, by_found}
 use Rattle.entry_table.proofs.Reserving.{ends_more}
 use Rattle.entry_table.proofs.Slots.{out_to, takes_more, away_more, takes_back, away_back}
 use Rattle.entry_table.proofs.Entering.{node_now, row_same}

@@ -1,5 +1,5 @@
 -- the walk through the rows of a closed table
-use Rattle.std.proofs.Common.{◌≡◌, ◌≢◌, ℕ, zero, suc, ◌+◌, ◌-◌, ◌*◌, ◌<◌, ◌≤◌, ◌⊎◌, Bool, true, false, List, [], ◌∷◌, ◌++◌, length, set, get_or, filter, find, Option, Some, None, refl, sym, ap, ◌∙◌, subst, ⊎_elim, arith, eq-eqb, eqb-true, append_assoc, append-nil, length-append, inl, inr}
+use Rattle.std.proofs.Common.{◌≡◌, ◌≢◌, ℕ, zero, suc, ◌-◌, ◌<◌, ◌≤◌, Bool, true, false, List, [], ◌∷◌, ◌++◌, length, set, get_or, filter, find, Option, Some, None, refl, sym, ap, ◌∙◌, subst, ⊎_elim, arith, eq-eqb, eqb-true, append_assoc, length-append}
 use Rattle.std.specs.Prelude.{slice_index}
 use Rattle.std.specs.List.{AllByRecursion}
 use Rattle.std.proofs.lemmas.Bool.{cases_Bool, cond-true, cond-false, eqb-false}
@@ -13,14 +13,12 @@ use Rattle.queue_model.specs.declared.rows.RowState.TheVariants.{Available, Lock
 use Rattle.queue_model.specs.Keyed.{Apart}
 use Rattle.acts_core.specs.Load.{Load}
 use Rattle.queue_model.specs.Sound.{same_number}
-use Rattle.queue_model.specs.State.{row_at, rows_of, is_row, is_of_list, place_at}
-use Rattle.queue_model.proofs.KeyedLemmas.{find-here, find-past, find_none-head, find_none-tail, apart-filter, find_none-filter}
+use Rattle.queue_model.specs.State.{row_at, rows_of, is_row, is_of_list}
+use Rattle.queue_model.proofs.KeyedLemmas.{find-here, find-past, find_none-head, find_none-tail}
 use Rattle.link_core.specs.Layout.{row_link_of, state_of, head_of}
 use Rattle.queue_model.specs.Packing.{pack_state}
-use Rattle.link_core.specs.Stands.{Stands, Chain, Points}
-use Rattle.link_core.specs.Table.{Table}
-use Rattle.entry_table.specs.Rule.{Carries}
-use Rattle.entry_table.specs.Resting.{is_live, live, rests, Keyless, Legible, IsRest, AreGathered, Waits, AllWait, Rested, Walking, IsFor}
+use Rattle.link_core.specs.Stands.{Chain, Points}
+use Rattle.entry_table.specs.Resting.{is_live, live, rests, Legible, IsRest, AreGathered, Waits, AllWait, Rested, Walking}
 use Rattle.acts_core.specs.declared.cargoes.RestEntry.{RestEntry}
 
 -- Words and slots that are read

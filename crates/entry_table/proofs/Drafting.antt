@@ -1,35 +1,34 @@
 -- draws of rows, and stores of draft words
-use Rattle.std.proofs.Common.{◌≡◌, ◌≢◌, ◌⊎◌, inl, inr, ℕ, zero, suc, ◌+◌, ◌-◌, ◌*◌, ◌==◌, ◌<◌, ◌≤◌, eqb, List, [], ◌∷◌, ◌++◌, true, false, find, length, set, get_or, Option, Some, None, option_map, refl, sym, ap, ◌∙◌, subst, ⊎_elim, arith, append-nil, eq-eqb, ne_eqb, eqb-true, get_or-set_same, get_or-set_other}
+use Rattle.std.proofs.Common.{◌≡◌, ◌≢◌, ◌⊎◌, inl, inr, ℕ, ◌+◌, ◌==◌, ◌<◌, ◌≤◌, eqb, List, [], ◌∷◌, ◌++◌, true, length, set, Option, Some, None, option_map, refl, sym, ap, ◌∙◌, subst, ⊎_elim, arith, append-nil, eq-eqb, ne_eqb, eqb-true}
 use Rattle.std.specs.Prelude.{slice_index}
 use Rattle.std.specs.List.{sum_by}
-use Rattle.std.proofs.lemmas.Bool.{cases_eq, eqb-false}
+use Rattle.std.proofs.lemmas.Bool.{cases_eq}
 use mathlib.Core.Option as maybe
 use lib.ListN.{get_elem?}
 use prog.Atomic.{either}
-use Rattle.atomic_table.specs.Table.{State, Me, step, keeps, Allows}
+use Rattle.atomic_table.specs.Table.{State, Me, keeps, Allows}
 use Rattle.queue_model.specs.declared.deeds.Deed.{Deed}
 use Rattle.queue_model.specs.declared.queues.Queue.{Queue}
 use Rattle.queue_model.specs.declared.queues.Reservation.{Reservation}
 use Rattle.queue_model.specs.declared.steps.DraftWord.{DraftWord}
 use Rattle.queue_model.specs.declared.steps.DraftWord.TheVariants as drafts
 use Rattle.queue_model.specs.declared.steps.Step.TheVariants as steps
-use Rattle.queue_model.specs.History.{after, own}
 use Rattle.acts_core.specs.Load.{Load}
 use Rattle.queue_model.specs.State.{entries}
 use Rattle.queue_model.proofs.KeyedLemmas.{find-here, find-past, find_passes, find-alter, find-alter_other}
 use Rattle.link_core.specs.Layout.{draft_of}
 use Rattle.link_core.specs.Stands.{Stands}
-use Rattle.link_core.specs.Table.{Table, but}
+use Rattle.link_core.specs.Table.{but}
 use Rattle.link_core.proofs.Drawing.{draw_kept, draft_kept}
 use Rattle.link_core.proofs.Frames.{but_here, but_else, draft_low, draft_high, set_here, set_else}
 use Rattle.entry_table.specs.declared.view.Drawing.{Drawing}
 use Rattle.entry_table.specs.declared.view.Shape.{Shape}
 use Rattle.entry_table.specs.declared.view.View.{View}
-use Rattle.entry_table.specs.Views.{Has, caller_of, is_drawing, drawing_at, blank_drawing, word_in, with_word, drawn_with, AllEnd}
-use Rattle.entry_table.specs.Rule.{table_at, IsDraft, Drafted, Cargoes, RuledAt, Ruled, allowance, share}
+use Rattle.entry_table.specs.Views.{caller_of, is_drawing, drawing_at, blank_drawing, word_in, with_word, AllEnd}
+use Rattle.entry_table.specs.Rule.{table_at, IsDraft, Drafted, RuledAt, Ruled, allowance, share}
 use Rattle.entry_table.specs.Plays.{drew, draws, drew_view, stored, stored_view, looked}
 use Rattle.entry_table.proofs.Frames.{views_set, sum_views, in_sum, takes_set, holds_idle, away_set}
-use Rattle.entry_table.proofs.Keeping.{Same, opened, now, me, has_me, knows_me, sees_all, ruled_next, went}
+use Rattle.entry_table.proofs.Keeping.{opened, now, me, has_me, knows_me, sees_all, ruled_next, went}
 use Rattle.entry_table.proofs.Looking.{Owes, miss_owes, by_found}
 
 -- a row that was just drawn has no draft words

@@ -1,6 +1,6 @@
 -- the ends of lists while entries are laid down
-use Rattle.std.proofs.Common.{true, false, ◌≡◌, ◌≢◌, ℕ, zero, suc, ◌+◌, ◌-◌, ◌*◌, ◌<◌, ◌≤◌, ◌==◌, ◌⊎◌, eqb, List, [], ◌∷◌, ◌++◌, length, length-append, filter, find, set, Option, Some, None, refl, sym, ap, ◌∙◌, subst, arith, append-nil, append_assoc, inl, inr, ⊎_elim, eq-eqb, ne_eqb, reverse, take, drop, add-zero}
-use Rattle.std.specs.Prelude.{slice_index, vec_len}
+use Rattle.std.proofs.Common.{◌≡◌, ◌≢◌, ℕ, zero, suc, ◌+◌, ◌-◌, ◌<◌, ◌≤◌, eqb, List, [], ◌∷◌, ◌++◌, length, length-append, set, Option, Some, None, refl, sym, ap, ◌∙◌, subst, arith, append-nil, append_assoc, ⊎_elim, eq-eqb, ne_eqb, reverse, take, drop, add-zero}
+use Rattle.std.specs.Prelude.{slice_index}
 use Rattle.std.specs.List.{AllByRecursion, position_or_len}
 use Rattle.std.specs.Option.{option_map_or}
 use Rattle.std.proofs.lemmas.Bool.{cases_eq, cond-true, cond-false}
@@ -10,7 +10,6 @@ use Rattle.queue_model.specs.declared.queues.Queue.{Queue}
 use Rattle.queue_model.specs.declared.rows.Row.{Row}
 use Rattle.queue_model.specs.declared.rows.RowState.TheVariants.{Available}
 use Rattle.queue_model.specs.declared.rows.Slip.{Slip}
-use Rattle.queue_model.specs.declared.steps.Node.TheVariants as nodes
 use Rattle.queue_model.specs.Sound.{IsOpening}
 use Rattle.queue_model.specs.State.{row_at, rows_of, list_at, place_at, is_row, is_of_list}
 use Rattle.queue_model.proofs.KeyedLemmas.{find-append, find_none-filter, position-push}

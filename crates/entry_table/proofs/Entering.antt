@@ -1,8 +1,8 @@
 -- an exchange of an empty link for a drawn row, with its cargo
-use Rattle.std.proofs.Common.{◌≡◌, ◌≢◌, ℕ, zero, suc, ◌+◌, ◌-◌, ◌*◌, ◌^◌, ◌<◌, ◌≤◌, ◌⊎◌, eqb, Bool, true, false, not, List, [], ◌∷◌, ◌++◌, length, set, get_or, Option, Some, None, find, refl, sym, ap, ap₂, ◌∙◌, subst, ⊎_elim, arith, append-nil, length-set, inl, inr, eqb-true, ne_eqb, eq-eqb}
+use Rattle.std.proofs.Common.{◌≡◌, ◌≢◌, ℕ, suc, ◌+◌, ◌^◌, ◌<◌, ◌≤◌, ◌⊎◌, eqb, not, List, [], ◌∷◌, length, set, Option, Some, None, refl, sym, ap, ◌∙◌, subst, ⊎_elim, arith, length-set, inl, inr, eqb-true, ne_eqb}
 use Rattle.std.specs.Prelude.{slice_index}
 use Rattle.std.specs.List.{sum_by}
-use Rattle.std.proofs.lemmas.Bool.{cases_eq, eqb-false}
+use Rattle.std.proofs.lemmas.Bool.{cases_eq}
 use mathlib.Core.Option as maybe
 use lib.ListN.{get_elem?}
 use prog.Atomic.{either}
@@ -21,13 +21,13 @@ use Rattle.queue_model.specs.declared.steps.DraftWord.TheVariants as drafts
 use Rattle.queue_model.specs.declared.steps.Node.{Node}
 use Rattle.queue_model.specs.declared.steps.Node.TheVariants as nodes
 use Rattle.queue_model.specs.declared.steps.Step.TheVariants as steps
-use Rattle.queue_model.specs.History.{after, Legal, own}
+use Rattle.queue_model.specs.History.{after}
 use Rattle.queue_model.specs.Laws.{SameGoods}
 use Rattle.acts_core.specs.Load.{Load}
-use Rattle.queue_model.specs.State.{is_row, row_at, list_at, place_at, reserved_by, entries}
+use Rattle.queue_model.specs.State.{row_at, list_at, place_at, entries}
 use Rattle.queue_model.specs.Table.{Can, CanGive, acted, with_less}
 use Rattle.queue_model.proofs.Depths.{depth_kept}
-use Rattle.queue_model.proofs.Histories.{own-mine, after-append}
+use Rattle.queue_model.proofs.Histories.{own-mine}
 use Rattle.queue_model.proofs.KeyedLemmas.{find-filter_other, find-filter_not}
 use Rattle.queue_model.proofs.Owns.{own_enqueued}
 use Rattle.queue_model.proofs.RowFacts.{row_push_other}
@@ -35,22 +35,22 @@ use Rattle.queue_model.proofs.SoundSteps.{list_found}
 use Rattle.queue_model.proofs.Stable.{row_stays, list_stays, place_stays, new_step}
 use Rattle.link_core.specs.Layout.{draft_of, link_of}
 use Rattle.link_core.specs.Stands.{Stands}
-use Rattle.link_core.specs.Steps.{FitsLink, enqueue_with, changed_by, slip_in, size_in, place_behind}
+use Rattle.link_core.specs.Steps.{FitsLink, slip_in, size_in, place_behind}
 use Rattle.link_core.specs.Table.{Table, but, IsNode, list_of_node}
-use Rattle.link_core.proofs.Frames.{but_here, but_else, draft_low, draft_high, set_else}
+use Rattle.link_core.proofs.Frames.{but_else, draft_low, draft_high, set_else}
 use Rattle.link_core.proofs.Linking.{link_step}
 use Rattle.entry_table.specs.declared.view.Drawing.{Drawing}
 use Rattle.entry_table.specs.declared.view.Shape.{Shape}
 use Rattle.entry_table.specs.declared.view.View.{View}
-use Rattle.entry_table.specs.Views.{Has, caller_of, is_drawing, drawing_at, drawn_without, slip_of, AllEnd}
-use Rattle.entry_table.specs.Rule.{table_at, Carries, Cargoes, Lies, Bare, IsDraft, Drafted, Holds, RuledAt, Ruled, allowance, share}
+use Rattle.entry_table.specs.Views.{caller_of, is_drawing, drawing_at, slip_of}
+use Rattle.entry_table.specs.Rule.{table_at, Cargoes, Lies, Drafted, RuledAt, Ruled, allowance, share}
 use Rattle.entry_table.specs.Plays.{by_me, IsKnown, list_at_node, place_at_node, Linkable, enters, linked, linked_view, DidLink, LinkReady, linking, looked}
 use Rattle.entry_table.proofs.Frames.{views_set, sum_views}
-use Rattle.entry_table.proofs.Keeping.{opened, now, me, has_me, knows_me, after_seen, reserved_now, sees_all, ruled_next, went, mine_alone}
-use Rattle.entry_table.proofs.Looking.{Owes, miss_owes, by_found}
+use Rattle.entry_table.proofs.Keeping.{opened, now, me, knows_me, after_seen, reserved_now, sees_all, ruled_next, went, mine_alone}
+use Rattle.entry_table.proofs.Looking.{miss_owes, by_found}
 use Rattle.entry_table.proofs.Reserving.{ends_more}
 use Rattle.entry_table.proofs.Drafting.{other_draft}
-use Rattle.entry_table.proofs.Slots.{lies_else, bare_else, takes_back, away_back, drawn_none, mine_less}
+use Rattle.entry_table.proofs.Slots.{lies_else, bare_else, takes_back, away_back, mine_less}
 
 -- Lists and consumers of a queue stay
 

@@ -1,17 +1,16 @@
 -- exchanges of a row's state, in the calls
-use Rattle.std.proofs.Common.{◌≡◌, ◌≢◌, ℕ, zero, suc, ◌+◌, ◌*◌, ◌<◌, ◌≤◌, List, [], ◌∷◌, ◌++◌, Option, Some, None, refl, sym, ap, ◌∙◌, subst, arith, eqb, ⊎_elim}
+use Rattle.std.proofs.Common.{◌≡◌, ◌≢◌, ℕ, List, [], ◌∷◌, ◌++◌, Option, Some, None, refl, sym, ap, ◌∙◌, subst, eqb, ⊎_elim}
 use Rattle.std.proofs.lemmas.Bool.{cases_eq}
 use prog.Atomic.{either}
 use Rattle.atomic_table.specs.Table.{Me, Allows}
 use Rattle.queue_model.specs.declared.rows.Row.{Row}
 use Rattle.queue_model.specs.declared.rows.RowState.{RowState}
-use Rattle.queue_model.specs.declared.rows.RowState.TheVariants.{Available, Locked, Unlocked, Dequeued, Deleted}
+use Rattle.queue_model.specs.declared.rows.RowState.TheVariants.{Locked}
 use Rattle.queue_model.specs.declared.queues.Queue.{Queue}
-use Rattle.queue_model.specs.declared.deeds.Deed.{Deed}
 use Rattle.queue_model.specs.declared.steps.Change.{Change}
 use Rattle.queue_model.specs.declared.steps.Change.TheVariants.{Acq, Lock, Unlock, Steal, Rel, Deq, Del}
 use Rattle.queue_model.specs.declared.steps.Step.TheVariants as steps
-use Rattle.queue_model.specs.History.{after, Legal, own, deed}
+use Rattle.queue_model.specs.History.{after, Legal, deed}
 use Rattle.acts_core.specs.Load.{Load}
 use Rattle.queue_model.specs.State.{row_at, IsIn}
 use Rattle.queue_model.proofs.Histories.{after-append, legal_rest}
@@ -24,7 +23,7 @@ use Rattle.entry_table.specs.declared.view.Shape.{Shape}
 use Rattle.entry_table.specs.declared.view.View.{View}
 use Rattle.entry_table.specs.Views.{caller_of, state_in}
 use Rattle.entry_table.specs.Rule.{Ruled}
-use Rattle.entry_table.specs.Plays.{Went, Shows, by_me, looked, looked_view, took, ended, TakesOut, IsEnding, DidChange, ShowsState, Slotted, AfterCall, Within, later_view, slotted_view, changed_view}
+use Rattle.entry_table.specs.Plays.{Went, Shows, by_me, looked_view, took, ended, TakesOut, IsEnding, DidChange, ShowsState, Slotted, AfterCall, slotted_view, changed_view}
 use Rattle.queue_model.specs.declared.steps.WordName.TheVariants as names
 use Rattle.entry_table.proofs.Changing.{takes_allowed, ends_allowed, held_out}
 

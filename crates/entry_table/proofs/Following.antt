@@ -1,6 +1,6 @@
 -- what the link behind a stop of a list tells
-use Rattle.std.proofs.Common.{◌≡◌, ◌≢◌, ◌⊎◌, inl, inr, ℕ, zero, suc, ◌+◌, ◌-◌, ◌≤◌, ◌<◌, ◌==◌, Bool, true, false, cond, Option, Some, None, List, [], ◌∷◌, ◌++◌, length, filter, find, refl, sym, ap, ◌∙◌, subst, ⊎_elim, append_assoc, length-append, eq-eqb, ne_eqb, eqb-true, arith}
-use Rattle.std.proofs.lemmas.Bool.{cases_Bool, cond-true, cond-false, eqb-false}
+use Rattle.std.proofs.Common.{◌≡◌, ◌≢◌, ◌⊎◌, inl, inr, ℕ, zero, suc, ◌+◌, ◌-◌, ◌≤◌, ◌<◌, Bool, true, false, cond, Option, Some, None, List, [], ◌∷◌, ◌++◌, length, filter, find, refl, sym, ap, ◌∙◌, subst, ⊎_elim, append_assoc, length-append, eq-eqb, ne_eqb, eqb-true, arith}
+use Rattle.std.proofs.lemmas.Bool.{cases_Bool, cond-true, cond-false}
 use Rattle.std.specs.List.{AllByRecursion, position_or_len}
 use Rattle.std.specs.Prelude.{slice_index}
 use mathlib.Core.List.{IsPrefix}
@@ -8,7 +8,6 @@ use Rattle.queue_model.specs.declared.deeds.Deed.{Deed}
 use Rattle.queue_model.specs.declared.queues.Queue.{Queue}
 use Rattle.queue_model.specs.declared.rows.Row.{Row}
 use Rattle.queue_model.specs.declared.rows.RowState.TheVariants.{Deleted}
-use Rattle.queue_model.specs.declared.steps.Node.{Node}
 use Rattle.queue_model.specs.declared.steps.Node.TheVariants as nodes
 use Rattle.queue_model.specs.declared.steps.Step.TheVariants.{Load}
 use Rattle.queue_model.specs.declared.steps.WordName.TheVariants as names
@@ -244,7 +243,7 @@ row_node l zero some = absurd (some refl)
 row_node l (suc r) some = ap (λ (n : ℕ). nodes.Row n) (let e : r ≡ suc r - 1 = omega arith in e)
 
 -- the place of a row is below the number of rows
-place_low : (shape : Shape) (q : Queue) (r : ℕ) (x : Row) → Within shape q → row_at q r ≡ Some x → place_at q r < shape.rows
+pub place_low : (shape : Shape) (q : Queue) (r : ℕ) (x : Row) → Within shape q → row_at q r ≡ Some x → place_at q r < shape.rows
 place_low shape q r x w found =
     let t = found_there q x.slip.list r x found refl in
     let within = position_in (is_row r) (rows_of q x.slip.list) x t.0 in
@@ -259,7 +258,7 @@ place_low shape q r x w found =
         elim (p y) as (λ b. length (cond b (y ∷ filter p ys) (filter p ys)) ≤ suc (length ys)) [ true ↦ omega (arith, rest) | false ↦ omega (arith, rest) ]
 
 -- a stop of a list is one later
-stop_later : (o : Queue) (ds es : List Deed) (l w : ℕ) → IsPrefix ds es → IsStop (after o ds) l w → IsStop (after o es) l w
+pub stop_later : (o : Queue) (ds es : List Deed) (l w : ℕ) → IsPrefix ds es → IsStop (after o ds) l w → IsStop (after o es) l w
 stop_later o ds es l zero p stop = tt
 stop_later o ds es l (suc r) p stop = list_later o ds es l r p stop
 

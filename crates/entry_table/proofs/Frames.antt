@@ -1,5 +1,5 @@
 -- what a step of one seat leaves of the rule for the others
-use Rattle.std.proofs.Common.{true, ◌≡◌, ◌≢◌, ℕ, zero, suc, ◌+◌, ◌<◌, ◌≤◌, ◌⊎◌, List, [], ◌∷◌, ◌++◌, length, set, Option, Some, None, find, filter, refl, sym, ap, ◌∙◌, subst, ⊎_elim, arith, append-nil, length-append, length-set, inl, inr}
+use Rattle.std.proofs.Common.{true, ◌≡◌, ◌≢◌, ℕ, zero, suc, ◌+◌, ◌<◌, ◌≤◌, List, [], ◌∷◌, ◌++◌, length, set, Option, Some, None, find, refl, sym, ap, ◌∙◌, subst, ⊎_elim, arith, append-nil, length-set, inl, inr}
 use Rattle.std.specs.Prelude.{slice_index}
 use Rattle.std.specs.List.{sum_by}
 use Rattle.std.proofs.lemmas.Bool.{cases_eq}
@@ -9,23 +9,22 @@ use mathlib.Core.Option.{some, none}
 use mathlib.Core.Option as maybe
 use mathlib.Core.List.{IsPrefix}
 use lib.ListN.{get_elem?}
-use Rattle.atomic_table.proofs.Lists.{at_set, set_here, set_else}
+use Rattle.atomic_table.proofs.Lists.{at_set, set_else}
 use Rattle.queue_model.specs.declared.deeds.Deed.{Deed}
 use Rattle.queue_model.specs.declared.queues.Queue.{Queue}
 use Rattle.queue_model.specs.declared.rows.RowState.TheVariants.{Locked}
 use Rattle.queue_model.specs.declared.steps.DraftWord.{DraftWord}
-use Rattle.queue_model.specs.History.{after, Legal, own, is_by}
+use Rattle.queue_model.specs.History.{after, Legal, own}
 use Rattle.queue_model.specs.State.{IsIn}
 use Rattle.link_core.specs.Layout.{draft_of}
 use Rattle.queue_model.proofs.Histories.{own-append}
-use Rattle.queue_model.proofs.Prefixes.{prefix_self, prefix_more, prefix_trans}
+use Rattle.queue_model.proofs.Prefixes.{prefix_more, prefix_trans}
 use Rattle.queue_model.proofs.Stable.{held_stays}
 use Rattle.entry_table.specs.declared.view.Drawing.{Drawing}
 use Rattle.entry_table.specs.declared.view.Shape.{Shape}
-use Rattle.entry_table.specs.declared.view.Told.{Told}
 use Rattle.entry_table.specs.declared.view.View.{View}
 use Rattle.entry_table.specs.Views.{Has, caller_of, is_drawing, drawing_at, is_take_of, takes_of}
-use Rattle.entry_table.specs.Rule.{Knows, Serves, Tells, IsDraft, Drafted, Reaches, Takes, Holds, Away, Alone, Counts, Each}
+use Rattle.entry_table.specs.Rule.{Knows, Serves, Tells, Drafted, Reaches, Takes, Holds, Alone, Counts, Each}
 
 -- Views
 

@@ -1,5 +1,5 @@
 -- what is given back, by the operand of the step
-use Rattle.std.proofs.Common.{◌≡◌, ℕ, ◌+◌, ◌-◌, ◌%◌, ◌^◌, ◌<◌, ◌≤◌, List, ◌∷◌, Option, None, sym, ap, subst, arith}
+use Rattle.std.proofs.Common.{◌≡◌, ℕ, ◌+◌, ◌-◌, ◌%◌, ◌^◌, ◌<◌, List, ◌∷◌, Option, None, sym, ap, subst, arith}
 use Rattle.std.specs.Prelude.{slice_index}
 use mathlib.Core.Option as maybe
 use Rattle.atomic_table.specs.Table.{Me, Allows, step, carried_after}

@@ -1,36 +1,26 @@
 -- several steps of one call
-use Rattle.std.proofs.Common.{◌≡◌, ◌≢◌, ℕ, zero, suc, ◌+◌, ◌<◌, ◌≤◌, List, [], ◌∷◌, ◌++◌, Option, Some, None, find, inl, inr, ⊎_elim, ◌⊎◌, refl, sym, ap, ap₂, ◌∙◌, subst, arith, append-nil, append_assoc}
-use mathlib.Core.List.{IsPrefix}
-use Rattle.atomic_table.specs.Table.{Me, rest}
+use Rattle.std.proofs.Common.{◌≡◌, ◌≢◌, ℕ, suc, ◌<◌, ◌≤◌, List, [], ◌∷◌, ◌++◌, Option, Some, None, find, inl, refl, sym, ap, ◌∙◌, subst, arith, append_assoc}
+use Rattle.atomic_table.specs.Table.{Me}
 use Rattle.queue_model.specs.declared.deeds.Act.{Act}
 use Rattle.queue_model.specs.declared.deeds.Deed.{Deed}
 use Rattle.queue_model.specs.declared.queues.Queue.{Queue}
-use Rattle.queue_model.specs.declared.queues.Reservation.{Reservation}
-use Rattle.queue_model.specs.declared.rows.Row.{Row}
 use Rattle.queue_model.specs.declared.steps.Node.{Node}
 use Rattle.queue_model.specs.declared.steps.Node.TheVariants as nodes
 use Rattle.queue_model.specs.declared.steps.Step.{Step}
 use Rattle.queue_model.specs.declared.steps.Step.TheVariants as steps
 use Rattle.queue_model.specs.declared.steps.WordName.TheVariants as names
-use Rattle.queue_model.specs.History.{after, Legal, own}
+use Rattle.queue_model.specs.History.{after, own}
 use Rattle.acts_core.specs.Load.{Load}
-use Rattle.queue_model.specs.State.{row_at, list_at, place_at, reserved_by}
-use Rattle.queue_model.specs.Table.{CanGive}
-use Rattle.queue_model.proofs.Histories.{after-append}
 use Rattle.queue_model.proofs.Owns.{own_rest}
 use Rattle.queue_model.proofs.Prefixes.{prefix_trans}
-use Rattle.queue_model.proofs.Stable.{row_stays, list_stays, place_stays, reserved_stays}
 use Rattle.link_core.specs.Layout.{words_of, link_of}
 use Rattle.entry_table.specs.declared.draft.Draft.{Draft}
-use Rattle.entry_table.specs.declared.draft.Linking.TheVariants as answers
 use Rattle.entry_table.specs.declared.view.Drawing.{Drawing}
 use Rattle.entry_table.specs.declared.view.Shape.{Shape}
-use Rattle.queue_model.specs.declared.steps.Tried.{Tried}
 use Rattle.entry_table.specs.declared.view.View.{View}
 use Rattle.entry_table.specs.Views.{caller_of, rest_of, is_drawing, drawing_at, drawn_without, entry, state_in, Mine}
-use Rattle.entry_table.specs.Plays.{Steps, Within, Went, Shows, looked, looked_view, slotted_view, by_me, IsKnown, list_at_node, place_at_node, Linkable, enters, linked_view, DidLink, CanLink, LinkReady, DidEnter, Blocked, quiet, later_view, linked, linking, AfterCall}
+use Rattle.entry_table.specs.Plays.{Steps, Within, Went, Shows, looked, looked_view, slotted_view, by_me, IsKnown, Linkable, enters, linked_view, DidLink, CanLink, LinkReady, DidEnter, Blocked, quiet, later_view, linked, linking, AfterCall}
 use Rattle.entry_table.proofs.Keeping.{Same}
-use Rattle.entry_table.proofs.Entering.{lists_after}
 
 pub steps_trans : (O : Queue) (h : ℕ) (cs ks : List ℕ) (a b c ds es : List Deed) → Steps O h cs ks a b ds → Steps O h cs ks b c es → Steps O h cs ks a c (ds ++ es)
 steps_trans O h cs ks a b c ds es p q = record {
@@ -52,36 +42,11 @@ went_trans v w u ds es same p q =
       bound = λ zero_me k high. q.bound (ap caller_of same.callers ∙ zero_me) k (let m = same.made in omega (arith, m, high));
     }
 
--- What the pass knows stays so
+-- its caller did nothing
 
 module _ (O : Queue) (h : ℕ) (cs ks : List ℕ) (S0 S1 : List Deed) (s : Steps O h cs ks S0 S1 []) where
-  later_is : after (after O S0) s.prefix.0 ≡ after O S1
-  later_is = sym (after-append O S0 s.prefix.0) ∙ ap (after O) s.prefix.1
-
   pub idle_since : own h s.prefix.0 ≡ []
   idle_since = own_rest h S0 S1 [] s.prefix s.own_more
-
-  known_later : (node : Node) → IsKnown (after O S0) node → IsKnown (after O S1) node
-  known_later (nodes.Head l) low = let more = (lists_after (after O S0) s.prefix.0).0 in let all = ap (λ (q : Queue). q.lists) later_is in let lt : l < (after O S0).lists = low in omega (arith, lt, more, all)
-  known_later (nodes.Row a) there = let y = row_stays (after O S0) s.prefix.0 a there.0 there.1 in (y.0, subst (λ (q : Queue). row_at q a ≡ Some y.0) later_is y.1)
-
-  node_later : (node : Node) → IsKnown (after O S0) node → (list_at_node (after O S1) node ≡ list_at_node (after O S0) node) × (place_at_node (after O S1) node ≡ place_at_node (after O S0) node)
-  node_later (nodes.Head l) low = (refl, refl)
-  node_later (nodes.Row a) there = (
-    ap (λ (q : Queue). list_at q a) (sym later_is) ∙ list_stays (after O S0) s.prefix.0 a there.0 there.1,
-    ap (λ (n : ℕ). n + 1) (ap (λ (q : Queue). place_at q a) (sym later_is) ∙ place_stays (after O S0) s.prefix.0 a there.0 there.1),
-  )
-
-  pub linkable_later : (d : Drawing) (node : Node) → Linkable (after O S0) h d node → Linkable (after O S1) h d node
-  linkable_later d node l =
-      let place = node_later node l.known in record {
-        known = known_later node l.known;
-        list = l.list ∙ sym place.0;
-        place = l.place ∙ sym place.1;
-        mask = subst (λ (n : ℕ). d.mask < Rattle.std.specs.Prelude.◌^◌ 2 n) (sym (lists_after (after O S0) s.prefix.0).1 ∙ ap (λ (q : Queue). q.consumers) later_is) l.mask;
-        size = l.size;
-        reserved = subst (λ (r : Reservation). CanGive r d.size) (sym (reserved_stays (after O S0) s.prefix.0 h idle_since) ∙ ap (λ (q : Queue). reserved_by q h) later_is) l.reserved;
-      }
 
 -- what is told of a view is told of another that has seen as much
 pub went_same : (v u x : View) (ds : List Deed) → x.seen ≡ u.seen → x.reached ≡ u.reached → Went v u ds → Went v x ds

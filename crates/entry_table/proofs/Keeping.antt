@@ -1,5 +1,5 @@
 -- the rule after a step of one seat, from what the step says of its own seat
-use Rattle.std.proofs.Common.{true, ◌≡◌, ◌≢◌, ℕ, zero, suc, ◌+◌, ◌<◌, ◌≤◌, ◌⊎◌, List, [], ◌∷◌, ◌++◌, length, set, Option, Some, None, length-append, refl, sym, ap, ap₂, ◌∙◌, subst, ⊎_elim, arith, append-nil, append_assoc, inl, inr}
+use Rattle.std.proofs.Common.{true, ◌≡◌, ◌≢◌, ℕ, ◌+◌, ◌<◌, ◌≤◌, List, [], ◌∷◌, ◌++◌, length, set, Option, Some, length-append, refl, sym, ap, ap₂, ◌∙◌, subst, arith, append-nil, inl}
 use Rattle.std.specs.Prelude.{slice_index}
 use Rattle.std.specs.List.{sum_by}
 use mathlib.Core.Option as maybe
@@ -10,13 +10,11 @@ use Rattle.queue_model.specs.declared.deeds.Act.{Act}
 use Rattle.queue_model.specs.declared.deeds.Deed.{Deed}
 use Rattle.queue_model.specs.declared.queues.Queue.{Queue}
 use Rattle.queue_model.specs.declared.queues.Reservation.{Reservation}
-use Rattle.queue_model.specs.declared.rows.RowState.{RowState}
 use Rattle.queue_model.specs.declared.rows.RowState.TheVariants.{Locked}
-use Rattle.queue_model.specs.History.{after, Legal, own, deed, deeds_of}
+use Rattle.queue_model.specs.History.{after, Legal, own, deed}
 use Rattle.acts_core.specs.Load.{Load}
 use Rattle.queue_model.specs.State.{entries, IsIn, reserved_by}
-use Rattle.queue_model.specs.Table.{Can}
-use Rattle.queue_model.proofs.Histories.{own-append, own-mine, own-other, after-append, legal-append, legal_rest}
+use Rattle.queue_model.proofs.Histories.{own-append, own-other, after-append, legal-append, legal_rest}
 use Rattle.queue_model.proofs.Prefixes.{prefix_more, prefix_self, prefix_trans}
 use Rattle.queue_model.proofs.Stable.{held_stays, reserved_stays}
 use Rattle.queue_model.proofs.Owns.{own_rest}
@@ -27,8 +25,8 @@ use Rattle.entry_table.specs.Views.{Has, caller_of, takes_of, concerns, concerni
 use Rattle.std.proofs.lemmas.List.Elements.{filter-append}
 use Rattle.entry_table.proofs.Concerning.{has_in, none_concern, all_concern}
 use Rattle.entry_table.specs.Rule.{table_at, Cargoes, Knows, Drafted, Unwritten, Takes, Holds, Away, Each, RuledAt, Ruled, allowance, share}
-use Rattle.entry_table.specs.Plays.{Steps, Within, Went}
-use Rattle.entry_table.proofs.Frames.{nothing_more, takes-append, knows_set, serves_set, tells_set, reaches_set, holds_set, alone_set, counts_set}
+use Rattle.entry_table.specs.Plays.{Within, Went}
+use Rattle.entry_table.proofs.Frames.{takes-append, knows_set, serves_set, tells_set, reaches_set, holds_set, alone_set, counts_set}
 
 -- what a view keeps in a step that changes neither callers nor consumers
 pub record Same (v w : View) : Type 0 where

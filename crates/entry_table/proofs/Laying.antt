@@ -1,14 +1,12 @@
 -- entries that are laid down by a pass that is alone
-use Rattle.std.proofs.Common.{true, false, ◌≡◌, ◌≢◌, ℕ, zero, suc, ◌+◌, ◌-◌, ◌*◌, ◌^◌, ◌<◌, ◌≤◌, ◌==◌, ◌⊎◌, List, [], ◌∷◌, ◌++◌, length, length-append, filter, find, Option, Some, None, option_map, refl, sym, ap, ◌∙◌, subst, arith, append-nil, inl, inr, ⊎_elim, eq-eqb, ne_eqb, eqb-true}
+use Rattle.std.proofs.Common.{true, ◌≡◌, ℕ, ◌+◌, ◌-◌, ◌<◌, ◌≤◌, ◌==◌, List, [], ◌∷◌, ◌++◌, find, Option, Some, None, option_map, refl, sym, ap, ◌∙◌, subst, arith, append-nil, eq-eqb, eqb-true}
 use Rattle.std.specs.Prelude.{slice_index, unwrap_or}
-use mathlib.Core.List.{IsPrefix}
 use Rattle.queue_model.specs.declared.deeds.Act.{Act}
 use Rattle.queue_model.specs.declared.deeds.Act.TheVariants as acts
 use Rattle.queue_model.specs.declared.deeds.Deed.{Deed}
 use Rattle.queue_model.specs.declared.queues.Queue.{Queue}
 use Rattle.queue_model.specs.declared.queues.Reservation.{Reservation}
 use Rattle.queue_model.specs.declared.rows.Row.{Row}
-use Rattle.queue_model.specs.declared.rows.RowState.TheVariants.{Available}
 use Rattle.queue_model.specs.declared.rows.Slip.{Slip}
 use Rattle.queue_model.specs.declared.steps.DraftWord.{DraftWord}
 use Rattle.queue_model.specs.declared.steps.DraftWord.TheVariants as drafts
@@ -17,7 +15,7 @@ use Rattle.queue_model.specs.declared.steps.Node.TheVariants as nodes
 use Rattle.queue_model.specs.declared.steps.Step.TheVariants as steps
 use Rattle.queue_model.specs.History.{after, Legal, deed}
 use Rattle.queue_model.specs.Keyed.{alter}
-use Rattle.queue_model.specs.State.{row_at, rows_of, list_at, is_holder, is_row, nothing, reserved_by}
+use Rattle.queue_model.specs.State.{row_at, list_at, is_holder, nothing, reserved_by}
 use Rattle.queue_model.specs.Table.{acted, reserving, more, less, CanGive}
 use Rattle.queue_model.proofs.Histories.{after-append, legal_rest}
 use Rattle.queue_model.proofs.KeyedLemmas.{find-here, find_passes, find-alter}
@@ -28,11 +26,10 @@ use Rattle.link_core.specs.Steps.{shown}
 use Rattle.link_core.specs.Table.{Table}
 use Rattle.entry_table.specs.declared.draft.Draft.{Draft}
 use Rattle.entry_table.specs.declared.view.Drawing.{Drawing}
-use Rattle.entry_table.specs.declared.view.Shape.{Shape}
 use Rattle.entry_table.specs.declared.view.View.{View}
-use Rattle.entry_table.specs.Views.{caller_of, is_drawing, drawing_at, blank_drawing, with_word, drawn_with, drawn_without, slip_of, state_in}
-use Rattle.entry_table.specs.Plays.{Went, by_me, Deepens, depth_view, DidReserve, DidDraw, stored_view, IsDrawnBy, IsKnown, list_at_node, place_at_node, Linkable, CanLink, DidEnter, Blocked, enters, Shows}
-use Rattle.entry_table.specs.Starting.{MayStart, IsStarted, node_of, NoneBehind, IsEnd, laid, drawing_of, Wrote, CanLay, DidLay}
+use Rattle.entry_table.specs.Views.{caller_of, is_drawing, drawing_at, blank_drawing, with_word, drawn_without, slip_of, state_in}
+use Rattle.entry_table.specs.Plays.{Went, by_me, Deepens, depth_view, DidReserve, DidDraw, stored_view, IsDrawnBy, IsKnown, list_at_node, place_at_node, Linkable, CanLink, DidEnter, Blocked, enters}
+use Rattle.entry_table.specs.Starting.{node_of, NoneBehind, laid, drawing_of, Wrote, CanLay, DidLay}
 use Rattle.entry_table.proofs.Entering.{entered}
 use Rattle.entry_table.proofs.Joining.{went_trans}
 use Rattle.entry_table.proofs.Keeping.{Same}
@@ -117,10 +114,6 @@ just_drawn v w row d =
 
 -- Nodes
 
-pub node_suc : (l w : ℕ) → w ≢ 0 → node_of l w ≡ nodes.Row (w - 1)
-node_suc l zero some = absurd (some refl)
-node_suc l (suc r) some = let e : suc r - 1 ≡ r = omega arith in ap nodes.Row (sym e)
-
 -- a reservation leaves rows as they are
 known_reserving : (q : Queue) (h size : ℕ) (node : Node) → IsKnown q node → IsKnown (reserving q h size) node
 known_reserving q h size (nodes.Head l) known = known
@@ -184,9 +177,6 @@ module _ {C : Type 0} (load : C → Load) where
 
     alone_3 : v3.alone ≡ true
     alone_3 = ap (λ (z : View). z.alone) t.view ∙ alone_2
-
-    opening_3 : v3.opening ≡ v.opening
-    opening_3 = ap (λ (z : View). z.opening) t.view ∙ (ap (λ (z : View). z.opening) d.view ∙ ap (λ (z : View). z.opening) r.view)
 
     callers_3 : v3.callers ≡ v.callers
     callers_3 = ap (λ (z : View). z.callers) t.view ∙ (ap (λ (z : View). z.callers) d.view ∙ ap (λ (z : View). z.callers) r.view)

@@ -29,3 +29,4 @@ pub mod Bringing
 pub mod Sighting
 pub mod Following
 pub mod Later
+pub mod Serving

@@ -1,5 +1,5 @@
 -- steps that leave drafts and slots as they are, loads among them
-use Rattle.std.proofs.Common.{◌≡◌, ◌≢◌, ℕ, zero, suc, ◌+◌, ◌<◌, ◌≤◌, ◌⊎◌, eqb, List, [], ◌∷◌, ◌++◌, length, set, get_or, Option, Some, None, refl, sym, ap, ap₂, ◌∙◌, subst, ⊎_elim, arith, append-nil, inl, inr}
+use Rattle.std.proofs.Common.{◌≡◌, ◌≢◌, ℕ, ◌+◌, ◌<◌, ◌≤◌, eqb, List, [], ◌∷◌, ◌++◌, set, Option, refl, sym, ap, ◌∙◌, subst, arith, append-nil}
 use Rattle.std.specs.Prelude.{slice_index}
 use Rattle.std.specs.List.{sum_by}
 use Rattle.std.proofs.lemmas.List.{set-get_or}
@@ -23,15 +23,11 @@ use Rattle.link_core.specs.Layout.{draft_of}
 use Rattle.link_core.specs.Stands.{Stands}
 use Rattle.entry_table.specs.declared.view.Shape.{Shape}
 use Rattle.entry_table.specs.declared.view.View.{View}
-use Rattle.entry_table.specs.Views.{caller_of, reached_by, takes_of, AllEnd}
+use Rattle.entry_table.specs.Views.{reached_by, takes_of, AllEnd}
 use Rattle.entry_table.specs.Rule.{table_at, Cargoes, Holds, RuledAt, Ruled, allowance, share}
 use Rattle.entry_table.specs.Plays.{looked, looked_view}
 use Rattle.entry_table.proofs.Frames.{sum_views, drafts_set, takes_set, away_set}
 use Rattle.entry_table.proofs.Keeping.{Same, opened, now, me, drawn_low, sees_all, ruled_next, went}
-
--- what a record update leaves
-pub same_self : (v : View) → Same v v
-same_self v = record { shape = refl; opening = refl; callers = refl; made = refl; alone = refl; consumers = refl }
 
 module _ {C : Type 0} (load : C → Load) (shape : Shape) where
   module _ (s : State (Option C) View) (id : ℕ) (v : View) (h : ℕ) (ended : List ℕ) (is : v.callers ≡ h ∷ ended) (at : get_elem? s.views id ≡ maybe.some v) (r : RuledAt load shape v.opening s) where

@@ -1,32 +1,29 @@
 -- the table when it is made, rebased and closed
-use Rattle.std.proofs.Common.{◌≡◌, ◌≢◌, inl, inr, ℕ, zero, suc, ◌+◌, ◌-◌, ◌*◌, ◌<◌, ◌≤◌, ◌⊎◌, true, List, [], ◌∷◌, ◌++◌, length, map, replicate, set, get_or, Option, Some, None, refl, sym, ap, ◌∙◌, subst, ⊎_elim, arith, length-append}
+use Rattle.std.proofs.Common.{◌≡◌, ◌≢◌, inr, ℕ, zero, suc, ◌+◌, ◌-◌, ◌*◌, ◌<◌, ◌≤◌, true, List, [], ◌∷◌, ◌++◌, length, map, replicate, set, get_or, Option, Some, None, refl, sym, ap, ◌∙◌, subst, ⊎_elim, arith}
 use Rattle.std.specs.Prelude.{slice_index}
 use Rattle.std.specs.List.{sum_by}
-use Rattle.std.proofs.lemmas.Bool.{cases_lt, cases_eq}
+use Rattle.std.proofs.lemmas.Bool.{cases_lt}
 use Rattle.std.proofs.lemmas.List.{get_or_append_left, get_or-append_right, set-get_or}
 use mathlib.Core.Option.{some, none}
 use mathlib.Core.Option as maybe
 use lib.ListN.{get_elem?}
-use Rattle.atomic_table.specs.Table.{State, Me, keeps, Allows, opening, Final, Seen}
+use Rattle.atomic_table.specs.Table.{Me, keeps, Allows, opening, Final, Seen}
 use Rattle.queue_model.specs.declared.deeds.Deed.{Deed}
 use Rattle.queue_model.specs.declared.queues.Queue.{Queue}
 use Rattle.queue_model.specs.declared.queues.Reservation.{Reservation}
-use Rattle.queue_model.specs.declared.rows.Row.{Row}
-use Rattle.queue_model.specs.declared.steps.DraftWord.{DraftWord}
 use Rattle.queue_model.specs.declared.steps.DraftWord.TheVariants as drafts
 use Rattle.queue_model.specs.History.{after, own}
 use Rattle.acts_core.specs.Load.{Load}
-use Rattle.queue_model.specs.State.{empty, nothing, row_at, entries}
+use Rattle.queue_model.specs.State.{empty, nothing, entries}
 use Rattle.queue_model.proofs.Prefixes.{seen_all}
 use Rattle.link_core.specs.Fresh.{blank_rows, empty_lists, fresh_words}
 use Rattle.link_core.specs.Layout.{draft_of}
 use Rattle.link_core.specs.Stands.{Stands}
 use Rattle.link_core.proofs.Making.{fresh_stands}
-use Rattle.entry_table.specs.declared.view.Drawing.{Drawing}
 use Rattle.entry_table.specs.declared.view.Shape.{Shape}
 use Rattle.entry_table.specs.declared.view.View.{View}
-use Rattle.entry_table.specs.Views.{Has, caller_of, state_in, drawing_at}
-use Rattle.entry_table.specs.Rule.{below, boss, table_at, Bare, Cargoes, Each, Knows, Serves, Tells, Drafted, Unwritten, Takes, Holds, Away, Alone, Counts, RuledAt, Ruled, allowance, share}
+use Rattle.entry_table.specs.Views.{Has, state_in}
+use Rattle.entry_table.specs.Rule.{below, boss, table_at, Cargoes, Each, Knows, Serves, Tells, Drafted, Unwritten, Takes, Holds, Alone, Counts, RuledAt, Ruled, allowance, share}
 use Rattle.entry_table.specs.Plays.{opened_view, opened as opened_by}
 use Rattle.entry_table.proofs.Frames.{at_less, sum_views}
 use Rattle.entry_table.proofs.Parting.{has_append}

@@ -1,40 +1,34 @@
 -- caller numbers, and passes that are split and joined
-use Rattle.std.proofs.Common.{◌≡◌, ◌≢◌, ℕ, zero, suc, ◌+◌, ◌-◌, ◌*◌, ◌%◌, ◌^◌, ◌<◌, ◌≤◌, ◌⊎◌, Bool, true, false, cond, eqb, List, [], ◌∷◌, ◌++◌, filter, length, set, get_or, Option, Some, None, refl, sym, ap, ◌∙◌, subst, ⊎_elim, arith, append-nil, inl, inr, eq-eqb, ne_eqb, eqb-true, le-leb, leb-true, nat_le, if◌then◌else◌, not}
+use Rattle.std.proofs.Common.{◌≡◌, ◌≢◌, ℕ, zero, suc, ◌+◌, ◌%◌, ◌^◌, ◌<◌, ◌≤◌, ◌⊎◌, Bool, true, false, eqb, List, [], ◌∷◌, ◌++◌, filter, length, set, Option, Some, None, refl, sym, ap, ◌∙◌, subst, ⊎_elim, arith, append-nil, inl, inr, eq-eqb, ne_eqb, le-leb, leb-true, nat_le, if◌then◌else◌, not}
 use Rattle.std.specs.Prelude.{slice_index}
 use Rattle.std.specs.List.{sum_by}
-use Rattle.std.proofs.lemmas.Bool.{cases_eq, cases_Bool, cond-true, cond-false, eqb-false}
-use Rattle.std.proofs.lemmas.List.Sums.{sum_by-cons, sum_by_push}
+use Rattle.std.proofs.lemmas.Bool.{cases_Bool, cond-true, cond-false}
+use Rattle.std.proofs.lemmas.List.Sums.{sum_by_push}
 use mathlib.Core.Option as maybe
 use mathlib.Core.List.{IsPrefix}
 use mathlib.Core.Logic.{dite}
 use native.Mathlib.Decide.{dec_le}
 use lib.ListN.{get_elem?}
-use Rattle.atomic_table.specs.Table.{State, Me, keeps, Allows, Splits, Joins}
+use Rattle.atomic_table.specs.Table.{Me, keeps, Allows, Splits, Joins}
 use Rattle.atomic_table.proofs.Lists.{set_else, at_longer}
 use Rattle.queue_model.specs.declared.deeds.Deed.{Deed}
 use Rattle.queue_model.specs.declared.queues.Queue.{Queue}
 use Rattle.queue_model.specs.declared.steps.DraftWord.{DraftWord}
-use Rattle.queue_model.specs.declared.rows.RowState.TheVariants.{Locked}
-use Rattle.queue_model.specs.History.{after, Legal, own}
+use Rattle.queue_model.specs.History.{after, own}
 use Rattle.acts_core.specs.Load.{Load}
-use Rattle.queue_model.specs.State.{row_at, IsIn, entries}
-use Rattle.queue_model.proofs.Histories.{own-append}
+use Rattle.queue_model.specs.State.{entries}
 use Rattle.queue_model.proofs.Prefixes.{prefix_self, prefix_shorter, prefix_length, prefix_whole, own_between}
 use Rattle.link_core.specs.Layout.{draft_of}
-use Rattle.link_core.specs.Stands.{Stands}
-use Rattle.link_core.specs.Table.{Table}
 use Rattle.link_core.proofs.Frames as words
 use Rattle.link_core.proofs.Counting.{callers_kept}
-use Rattle.entry_table.specs.declared.view.Drawing.{Drawing}
 use Rattle.entry_table.specs.declared.view.Shape.{Shape}
-use Rattle.entry_table.specs.declared.view.Told.{Told}
 use Rattle.entry_table.specs.declared.view.View.{View}
-use Rattle.entry_table.specs.Views.{Has, is_in, caller_of, drawing_at, takes_of, longer, spent, told_of}
+use Rattle.entry_table.specs.Views.{Has, is_in, caller_of, takes_of, longer, spent, told_of}
 use Rattle.entry_table.specs.Rule.{table_at, Each, Knows, Serves, IsTold, Tells, Drafted, Reaches, Takes, Holds, Alone, Counts, RuledAt, Ruled, allowance, share}
-use Rattle.entry_table.specs.Plays.{numbered, numbered_view, behind, cut_left, cut_right, drop_second, second_of, not_in, merged, noted_left, note}
-use Rattle.entry_table.proofs.Frames.{views_set, set_at, at_less, sum_views, in_sum, away_set, not_alone, takes_set, reaches_set, alone_set, takes-append, serves_set, holds_idle}
+use Rattle.entry_table.specs.Plays.{numbered, numbered_view, behind, cut_left, cut_right, drop_second, second_of, merged, noted_left, note}
+use Rattle.entry_table.proofs.Frames.{views_set, sum_views, away_set, not_alone, takes_set, reaches_set, alone_set, takes-append, serves_set, holds_idle}
 use Rattle.entry_table.proofs.Concerning.{has_in, in_has}
-use Rattle.entry_table.proofs.Keeping.{opened, now, me, knows_me, has_me, went}
+use Rattle.entry_table.proofs.Keeping.{opened, went}
 
 -- Lists of numbers
 

@@ -1,27 +1,24 @@
 -- reservations, and what is given back
-use Rattle.std.proofs.Common.{◌≡◌, ◌≢◌, ℕ, zero, suc, ◌+◌, ◌-◌, ◌*◌, ◌/◌, ◌%◌, ◌^◌, ◌<◌, ◌≤◌, List, [], ◌∷◌, ◌++◌, length, set, get_or, Option, Some, None, refl, sym, ap, ap₂, ◌∙◌, subst, arith, length-set, get_or-set_other}
+use Rattle.std.proofs.Common.{◌≡◌, ℕ, ◌+◌, ◌-◌, ◌*◌, ◌/◌, ◌%◌, ◌^◌, ◌<◌, ◌≤◌, List, [], ◌∷◌, ◌++◌, set, Option, None, refl, sym, ap, ap₂, ◌∙◌, subst, arith, get_or-set_other}
 use Rattle.std.specs.Prelude.{slice_index}
 use Rattle.std.specs.List.{sum_by}
 use mathlib.Core.Option as maybe
-use lib.ListN.{get_elem?}
-use Rattle.atomic_table.specs.Table.{State, Me, step, keeps, carried_after, Allows}
+use Rattle.atomic_table.specs.Table.{Me, step, keeps, carried_after, Allows}
 use Rattle.queue_model.specs.declared.deeds.Act.{Act}
 use Rattle.queue_model.specs.declared.deeds.Act.TheVariants as acts
 use Rattle.queue_model.specs.declared.deeds.Deed.{Deed}
 use Rattle.queue_model.specs.declared.queues.Queue.{Queue}
 use Rattle.queue_model.specs.declared.queues.Reservation.{Reservation}
-use Rattle.queue_model.specs.declared.steps.DraftWord.{DraftWord}
 use Rattle.queue_model.specs.declared.steps.Step.{Step}
 use Rattle.queue_model.specs.declared.steps.Step.TheVariants as steps
-use Rattle.queue_model.specs.History.{after, Legal, own, deed}
+use Rattle.queue_model.specs.History.{after, deed}
 use Rattle.acts_core.specs.Load.{Load}
-use Rattle.queue_model.specs.State.{row_at, entries, bytes, reserved_by}
-use Rattle.queue_model.specs.Table.{Can, CanGive, acted, with_more, with_less}
-use Rattle.queue_model.proofs.Depths.{depth_reserving, depth_giving, depth_low}
+use Rattle.queue_model.specs.State.{entries, bytes, reserved_by}
+use Rattle.queue_model.specs.Table.{CanGive, with_more, with_less}
+use Rattle.queue_model.proofs.Depths.{depth_reserving, depth_giving}
 use Rattle.queue_model.proofs.Histories.{own-mine}
 use Rattle.link_core.specs.Layout.{draft_of}
 use Rattle.queue_model.specs.Packing.{entry_worth}
-use Rattle.link_core.specs.Stands.{Stands}
 use Rattle.link_core.specs.Table.{but}
 use Rattle.link_core.proofs.Bounds.{depth_bounds}
 use Rattle.link_core.proofs.Frames.{draft_low}
@@ -29,10 +26,10 @@ use Rattle.link_core.proofs.Reserving.{entries_shown, few_bytes, reserve_kept, g
 use Rattle.entry_table.specs.declared.view.Shape.{Shape}
 use Rattle.entry_table.specs.declared.view.View.{View}
 use Rattle.entry_table.specs.Views.{caller_of, EndsBy, AllEnd, entry}
-use Rattle.entry_table.specs.Rule.{table_at, Cargoes, RuledAt, Ruled, allowance}
+use Rattle.entry_table.specs.Rule.{table_at, RuledAt, Ruled, allowance}
 use Rattle.entry_table.specs.Plays.{DepthShown, by_me, Deepens, depth_view, reserved, reserves, gave_back}
 use Rattle.entry_table.proofs.Frames.{sum_views, in_sum, holds_idle}
-use Rattle.entry_table.proofs.Keeping.{Same, opened, now, me, knows_me, went, mine_alone, reserved_now}
+use Rattle.entry_table.proofs.Keeping.{opened, now, me, knows_me, went, mine_alone, reserved_now}
 use Rattle.entry_table.proofs.Looking.{plain}
 
 -- one deed more

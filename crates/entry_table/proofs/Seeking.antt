@@ -1,28 +1,14 @@
 -- a draw of a row, over several tries
-use Rattle.std.proofs.Common.{◌≡◌, ◌≢◌, ℕ, ◌+◌, ◌-◌, ◌<◌, ◌≤◌, List, [], ◌∷◌, ◌++◌, length, length-append, None, refl, sym, ap, ◌∙◌, subst, arith, append-nil, append_assoc}
+use Rattle.std.proofs.Common.{◌≡◌, ◌≢◌, ℕ, ◌+◌, ◌-◌, ◌<◌, List, [], ◌∷◌, ◌++◌, length, length-append, refl, sym, ap, ◌∙◌, arith, append_assoc}
 use Rattle.std.specs.List.{AllByRecursion}
 use Rattle.queue_model.specs.declared.deeds.Deed.{Deed}
 use Rattle.queue_model.specs.declared.steps.Step.TheVariants as steps
 use Rattle.queue_model.specs.declared.steps.Tried.{Tried}
-use Rattle.entry_table.specs.declared.view.Shape.{Shape}
 use Rattle.entry_table.specs.declared.view.View.{View}
-use Rattle.entry_table.specs.Views.{entry, rest_of, blank_drawing}
+use Rattle.entry_table.specs.Views.{entry, blank_drawing}
 use Rattle.entry_table.specs.Plays.{Went, looked_view, drew_view, is_draw, DidDraw, Seeks}
 use Rattle.entry_table.proofs.Joining.{went_trans}
 use Rattle.entry_table.proofs.Keeping.{Same}
-
--- before the first try
-pub seeks_begin : (v : View) (row : ℕ) → row ≤ v.reached → v.reached ≤ v.shape.rows → Seeks v v row
-seeks_begin v row low high = record {
-  on = λ w ds g. g;
-  added = [];
-  shown_is = sym (append-nil v.shown);
-  draws = tt;
-  few = omega arith;
-  low = low;
-  high = high;
-  view = refl;
-}
 
 all_push : (xs : List Tried) (e : Tried) → AllByRecursion is_draw xs → is_draw e → AllByRecursion is_draw (xs ++ e ∷ [])
 all_push [] e all mine = (mine, tt)
@@ -80,20 +66,4 @@ seeks_end v u w row s went is =
       few = omega (arith, one_more s.added e, few, most, shape, reached);
       low = omega (arith, most, shape, reached);
       view = is_m ∙ ap (λ (z : View). record v { share = v.share - 1; reached = row + 1; drawn = blank_drawing row ∷ v.drawn; told = []; seen = z.seen; shown = z.shown }) (sym is_m);
-    }
-
--- what a further try asks of the seat
-pub record Trying (v u : View) (h : ℕ) : Type 0 where
-  pub callers : u.callers ≡ h ∷ rest_of u.callers
-  pub idle : u.slot ≡ None
-  pub room : 1 ≤ u.share
-
-pub still_trying : (v u : View) (row h : ℕ) → Seeks v u row → v.callers ≡ h ∷ rest_of v.callers → v.slot ≡ None → 1 ≤ v.share → Trying v u h
-still_trying v u row h s is idle room =
-    let e = s.view in
-    let callers : u.callers ≡ v.callers = ap (λ (z : View). z.callers) e in
-    let share : u.share ≡ v.share = ap (λ (z : View). z.share) e in record {
-      callers = callers ∙ is ∙ ap (λ (l : List ℕ). h ∷ rest_of l) (sym callers);
-      idle = ap (λ (z : View). z.slot) e ∙ idle;
-      room = omega (arith, share, room);
     }

@@ -1,9 +1,8 @@
 -- the steps of a table's pass, as the contracts of every queue see them
-use Rattle.std.proofs.Common.{◌≡◌, ◌≢◌, ℕ, ◌≤◌, ◌<◌, Bool, true, false, cond, eqb, List, [], ◌∷◌, ◌++◌, filter, length, refl, sym, ap, ◌∙◌, subst, ⊎_elim, append-nil, eq-eqb, ne_eqb, eqb-true}
+use Rattle.std.proofs.Common.{◌≡◌, ◌≢◌, ℕ, ◌≤◌, Bool, true, false, cond, eqb, List, [], ◌∷◌, ◌++◌, filter, length, refl, sym, ap, ◌∙◌, subst, ⊎_elim, append-nil, eq-eqb, ne_eqb, eqb-true}
 use Rattle.std.proofs.lemmas.Bool.{cases_eq, cases_Bool, cond-true, cond-false}
-use Rattle.std.proofs.lemmas.List.Elements.{filter-append}
 use mathlib.Core.HLevel.{⊥_prop}
-use mathlib.Core.List.{IsPrefix, Mem, mem-cons, not-mem-nil}
+use mathlib.Core.List.{Mem, mem-cons, not-mem-nil}
 use mathlib.Core.Logic.Or
 use Rattle.queue_model.specs.declared.deeds.Act.{Act}
 use Rattle.queue_model.specs.declared.deeds.Act.TheVariants as acts
@@ -21,8 +20,7 @@ use Rattle.acts_core.proofs.Stepping.{taken-append}
 use Rattle.entry_table.specs.declared.entries.Entries.{Entries}
 use Rattle.entry_table.specs.declared.pass.Pass.{Pass}
 use Rattle.entry_table.specs.declared.view.Shape.{Shape}
-use Rattle.entry_table.specs.Passes.{Kept, Did, IsPassOf, view, opening, seen, shown, allowance, share, callers, consumers}
-use Rattle.entry_table.specs.Plays.{Steps, Within}
+use Rattle.entry_table.specs.Passes.{Kept, Did, view, opening, seen, shown, allowance, share, callers, consumers}
 use Rattle.entry_table.specs.Sights.{sight, build_of, Serves}
 use Rattle.entry_table.specs.Views.{is_in, rest_of, takes_one, concerns, concerning}
 use Rattle.entry_table.proofs.Counting.{few_rows}

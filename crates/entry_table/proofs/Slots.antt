@@ -1,5 +1,5 @@
 -- slots that leave with a seat, and come home
-use Rattle.std.proofs.Common.{◌≡◌, ◌≢◌, ℕ, zero, suc, ◌+◌, ◌<◌, ◌≤◌, ◌⊎◌, List, [], ◌∷◌, ◌++◌, length, set, get_or, Option, Some, None, refl, sym, ap, ◌∙◌, subst, ⊎_elim, arith, append-nil, length-set, inl, inr, eqb, eq-eqb, ne_eqb, if◌then◌else◌}
+use Rattle.std.proofs.Common.{◌≡◌, ◌≢◌, ℕ, ◌+◌, ◌<◌, ◌≤◌, ◌⊎◌, List, [], ◌∷◌, ◌++◌, length, set, Option, Some, None, refl, sym, ap, ◌∙◌, subst, ⊎_elim, arith, append-nil, length-set, inl, inr, eqb, eq-eqb, ne_eqb, if◌then◌else◌}
 use Rattle.std.specs.Prelude.{slice_index}
 use Rattle.std.specs.List.{sum_by}
 use Rattle.std.proofs.lemmas.Bool.{cases_eq, cond-true, cond-false}
@@ -7,29 +7,28 @@ use Rattle.std.proofs.lemmas.List.{set-get_or}
 use mathlib.Core.Option.{some, none}
 use mathlib.Core.Option as maybe
 use lib.ListN.{get_elem?}
-use Rattle.atomic_table.specs.Table.{State, Me, takes, gives, put_back, rest, Allows}
+use Rattle.atomic_table.specs.Table.{State, Me, takes, gives, put_back, Allows}
 use Rattle.atomic_table.proofs.Lists as lists
-use Rattle.queue_model.specs.declared.deeds.Deed.{Deed}
 use Rattle.queue_model.specs.declared.queues.Queue.{Queue}
 use Rattle.queue_model.specs.declared.rows.Row.{Row}
 use Rattle.queue_model.specs.declared.rows.RowState.{RowState}
 use Rattle.queue_model.specs.declared.rows.RowState.TheVariants.{Available, Locked, Unlocked, Dequeued, Deleted}
 use Rattle.queue_model.specs.declared.steps.Step.{Step}
-use Rattle.queue_model.specs.History.{after, own}
+use Rattle.queue_model.specs.History.{after}
 use Rattle.acts_core.specs.Load.{Load}
 use Rattle.queue_model.specs.State.{row_at, IsIn, entries}
 use Rattle.queue_model.proofs.Stable.{same_state}
 use Rattle.link_core.proofs.Drawing.{not_linked}
 use Rattle.link_core.specs.Steps.{place_of_step, shown}
-use Rattle.link_core.specs.Table.{Table, top}
+use Rattle.link_core.specs.Table.{Table}
 use Rattle.entry_table.specs.declared.view.Drawing.{Drawing}
 use Rattle.entry_table.specs.declared.view.Shape.{Shape}
 use Rattle.entry_table.specs.declared.view.View.{View}
 use Rattle.entry_table.specs.Views.{Has, caller_of, drawing_at, Mine, reached_by, AllEnd}
-use Rattle.entry_table.specs.Rule.{table_at, Full, Bare, Lies, Cargoes, Each, Takes, Holds, Away, RuledAt, Ruled, allowance, share}
+use Rattle.entry_table.specs.Rule.{table_at, Bare, Lies, Cargoes, Each, Takes, Holds, Away, RuledAt, Ruled, allowance, share}
 use Rattle.entry_table.specs.Plays.{fetched, given, slotted_view}
 use Rattle.entry_table.proofs.Frames.{views_set, set_at, same_view, sum_views, drafts_set}
-use Rattle.entry_table.proofs.Keeping.{opened, now, me, drawn_low, has_me, knows_me, held_now, sees_same, ruled_next}
+use Rattle.entry_table.proofs.Keeping.{opened, now, me, drawn_low, has_me, held_now, sees_same, ruled_next}
 use Rattle.entry_table.proofs.Looking.{reached_low}
 
 -- another seat for the slot of one row

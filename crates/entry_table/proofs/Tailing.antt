@@ -1,12 +1,10 @@
 -- helps of tails are allowed
-use Rattle.std.proofs.Common.{◌≡◌, ◌≢◌, ℕ, zero, suc, ◌+◌, ◌<◌, ◌≤◌, ◌==◌, ◌⊎◌, eqb, List, [], ◌∷◌, ◌++◌, length, set, Option, Some, None, refl, sym, ap, ◌∙◌, subst, arith, append-nil, eq-eqb, ne_eqb}
+use Rattle.std.proofs.Common.{◌≡◌, ℕ, suc, ◌+◌, ◌<◌, ◌≤◌, ◌==◌, eqb, List, [], ◌∷◌, ◌++◌, set, Option, None, refl, sym, ap, ◌∙◌, subst, arith, append-nil, ne_eqb}
 use Rattle.std.specs.Prelude.{slice_index}
 use Rattle.std.specs.List.{sum_by}
 use Rattle.std.proofs.lemmas.Bool.{cond-false}
-use mathlib.Core.Option as maybe
-use lib.ListN.{get_elem?}
 use prog.Atomic.{either}
-use Rattle.atomic_table.specs.Table.{State, Me, keeps, Allows}
+use Rattle.atomic_table.specs.Table.{Me, keeps, Allows}
 use Rattle.queue_model.specs.declared.deeds.Deed.{Deed}
 use Rattle.queue_model.specs.declared.queues.Queue.{Queue}
 use Rattle.queue_model.specs.declared.steps.DraftWord.{DraftWord}
@@ -27,8 +25,8 @@ use Rattle.link_core.proofs.Frames.{set_else, draft_high}
 use Rattle.link_core.proofs.Helping.{help_step}
 use Rattle.entry_table.specs.declared.view.Shape.{Shape}
 use Rattle.entry_table.specs.declared.view.View.{View}
-use Rattle.entry_table.specs.Views.{caller_of, entry, AllEnd}
-use Rattle.entry_table.specs.Rule.{table_at, RuledAt, Ruled, allowance}
+use Rattle.entry_table.specs.Views.{entry, AllEnd}
+use Rattle.entry_table.specs.Rule.{table_at, Ruled, allowance}
 use Rattle.entry_table.specs.Plays.{IsKnown, Within, looked}
 use Rattle.entry_table.specs.Helps.{Helpable, HelpableTo, tail_after, help_view, helped}
 use Rattle.entry_table.proofs.Frames.{sum_views}

@@ -1,5 +1,5 @@
 -- changes that bring a row's cargo home, and deletions
-use Rattle.std.specs.Prelude.{◌≡◌, ℕ, Some, None, Option, List, [], ◌∷◌, ◌++◌}
+use Rattle.std.specs.Prelude.{◌≡◌, ℕ, Some, None, Option, [], ◌∷◌}
 use Rattle.atomic_table.specs.Table.{Me}
 use Rattle.queue_model.specs.declared.deeds.Act.TheVariants as acts
 use Rattle.queue_model.specs.declared.queues.Queue.{Queue}
@@ -9,13 +9,12 @@ use Rattle.queue_model.specs.declared.steps.Change.{Change}
 use Rattle.queue_model.specs.declared.steps.Change.TheVariants as changes
 use Rattle.queue_model.specs.declared.steps.Step.TheVariants as steps
 use Rattle.queue_model.specs.declared.steps.WordName.TheVariants as names
-use Rattle.queue_model.specs.Packing.{pack_state}
 use Rattle.queue_model.specs.State.{row_at}
 use Rattle.acts_core.specs.Load.{Load}
 use Rattle.link_core.specs.Steps.{act_with}
 use Rattle.entry_table.specs.declared.view.View.{View}
 use Rattle.entry_table.specs.Views.{caller_of, state_in}
-use Rattle.entry_table.specs.Plays.{freed, ended, DidChange, slotted_view}
+use Rattle.entry_table.specs.Plays.{freed, DidChange, slotted_view}
 
 -- changes that bring the row's cargo home
 abbrev pub BringsHome : Change → Type 0

@@ -1,15 +1,13 @@
 -- what contracts see of a pass and of a table
-use Rattle.std.specs.Prelude.{◌≡◌, ◌<◌, ℕ, Some, None, ◌+◌, List, [], ◌∷◌, ◌++◌, length}
+use Rattle.std.specs.Prelude.{◌≡◌, ℕ, None, List, []}
 use Rattle.queue_model.specs.declared.deeds.Act.{Act}
 use Rattle.queue_model.specs.declared.deeds.Deed.{Deed}
 use Rattle.queue_model.specs.declared.queues.Queue.{Queue}
 use Rattle.queue_model.specs.declared.steps.WordName.{WordName}
-use Rattle.queue_model.specs.History.{after, deed, deeds_of}
-use Rattle.queue_model.specs.State.{nothing, depth}
+use Rattle.queue_model.specs.History.{deeds_of}
+use Rattle.queue_model.specs.State.{nothing}
 use Rattle.queue_model.specs.declared.queues.Depth.{Depth}
 use Rattle.queue_model.specs.declared.steps.Step.{Step}
-use Rattle.queue_model.specs.Packing.{pack_depth}
-use mathlib.Core.List.{IsPrefix}
 use Rattle.link_core.specs.Steps as fitting
 use Rattle.entry_table.specs.declared.view.Drawing.{Drawing}
 use Rattle.entry_table.specs.declared.view.Shape.{Shape}
@@ -17,7 +15,7 @@ use Rattle.queue_model.specs.declared.steps.Tried.{Tried}
 use Rattle.entry_table.specs.declared.view.View.{View}
 use Rattle.entry_table.specs.declared.pass.Pass.{Pass}
 use Rattle.entry_table.specs.declared.entries.Entries.{Entries}
-use Rattle.entry_table.specs.Views.{view_in, rest_of, state_in, entry}
+use Rattle.entry_table.specs.Views.{view_in, state_in}
 use Rattle.entry_table.specs.Rule.{table_at}
 use Rattle.entry_table.specs.Plays.{Steps, DepthShown}
 

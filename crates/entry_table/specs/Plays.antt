@@ -1,5 +1,5 @@
 -- what each step tells
-use Rattle.std.specs.Prelude.{true, false, not, filter, ◌≡◌, ◌≢◌, ℕ, zero, suc, ◌+◌, ◌-◌, ◌<◌, ◌≤◌, ◌*◌, ◌^◌, Option, Some, None, Result, Ok, Err, List, [], ◌∷◌, ◌++◌, slice_index, length}
+use Rattle.std.specs.Prelude.{true, false, not, filter, ◌≡◌, ◌≢◌, ℕ, suc, ◌+◌, ◌-◌, ◌<◌, ◌≤◌, ◌^◌, Option, Some, None, Result, Ok, Err, List, [], ◌∷◌, ◌++◌, length}
 use mathlib.Core.List.{IsPrefix}
 use Rattle.atomic_table.specs.Table.{Me, Step as Played, rest}
 use Rattle.queue_model.specs.declared.deeds.Act.{Act}
@@ -12,7 +12,6 @@ use Rattle.queue_model.specs.declared.steps.Node.{Node}
 use Rattle.queue_model.specs.declared.steps.Node.TheVariants as nodes
 use Rattle.queue_model.specs.declared.steps.Step.{Step}
 use Rattle.queue_model.specs.declared.steps.Step.TheVariants as steps
-use Rattle.queue_model.specs.declared.steps.WordName.{WordName}
 use Rattle.queue_model.specs.declared.steps.WordName.TheVariants as names
 use Rattle.std.specs.List.{AllByRecursion}
 use Rattle.queue_model.specs.declared.steps.Tried.{Tried}
@@ -23,7 +22,7 @@ use Rattle.entry_table.specs.declared.draft.Linking.{Linking}
 use Rattle.entry_table.specs.declared.draft.Linking.TheVariants.{Linked, Behind}
 use Rattle.queue_model.specs.declared.steps.Change.TheVariants as changes
 use Rattle.queue_model.specs.State.{IsIn}
-use Rattle.queue_model.specs.History.{after, Legal, own, deed, deeds_of}
+use Rattle.queue_model.specs.History.{after, Legal, own, deed}
 use Rattle.acts_core.specs.Load.{Load}
 use Rattle.queue_model.specs.State.{row_at, list_at, place_at, reserved_by, entries, bytes, depth}
 use Rattle.queue_model.specs.Sound.{Sound}
@@ -34,7 +33,6 @@ use Rattle.queue_model.specs.declared.steps.Change.{Change}
 use Rattle.entry_table.specs.Rule.{Carries}
 use Rattle.link_core.specs.Steps.{shown, goes_to, act_with}
 use Rattle.entry_table.specs.declared.view.Shape.{Shape}
-use Rattle.link_core.specs.Layout.{place_of_word, link_of}
 use Rattle.queue_model.specs.Packing.{pack_state, pack_depth, entry_worth}
 use Rattle.link_core.specs.Stands.{Stands}
 use Rattle.link_core.specs.Table.{Table}

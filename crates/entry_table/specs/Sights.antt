@@ -1,5 +1,4 @@
 -- a table and its passes, as the contracts of every queue see them
-use Rattle.std.specs.Prelude.{◌≡◌}
 use Rattle.queue_model.specs.History.{Legal}
 use Rattle.queue_model.specs.Sound.{IsOpening}
 use Rattle.acts_core.specs.Sight.{Build, silent_lists, Sight}

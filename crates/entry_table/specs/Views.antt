@@ -1,5 +1,5 @@
 -- what stands in a view
-use Rattle.std.specs.Prelude.{◌≡◌, ℕ, Bool, true, false, ◌==◌, nat_le, not, if◌then◌else◌, Option, Some, None, ◌⊎◌, List, [], ◌∷◌, ◌++◌, length, filter, find}
+use Rattle.std.specs.Prelude.{◌≡◌, ℕ, Bool, true, false, ◌==◌, nat_le, not, if◌then◌else◌, Option, Some, None, ◌⊎◌, List, [], ◌∷◌, length, filter, find}
 use Rattle.std.specs.Option.{option_map}
 use Rattle.queue_model.specs.declared.deeds.Act.{Act}
 use Rattle.queue_model.specs.declared.deeds.Act.TheVariants.{Deq, Del, Take}
@@ -16,7 +16,6 @@ use Rattle.queue_model.specs.Keyed.{alter}
 use Rattle.queue_model.specs.State.{empty, IsIn}
 use Rattle.queue_model.specs.declared.rows.RowState.TheVariants.{Locked}
 use Rattle.entry_table.specs.declared.view.Drawing.{Drawing}
-use Rattle.entry_table.specs.declared.view.Shape.{Shape}
 use Rattle.entry_table.specs.declared.view.Told.{Told}
 use Rattle.queue_model.specs.declared.steps.Tried.{Tried}
 use Rattle.entry_table.specs.declared.view.View.{View}

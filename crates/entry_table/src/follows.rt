@@ -10,8 +10,8 @@ use crate::pass::Pass;
 use acts_core::Freight;
 use queue_model::{Node, WordName};
 
-// The node of a stop: 0 stands for the head of the list, and another number for the row before it.
-fn node_of(list: u32, stop: u64) -> Node
+/// The node of a stop: 0 stands for the head of the list, and another number for the row before it.
+pub fn node_of(list: u32, stop: u64) -> Node
     ensures { result ≡ node_at list stop }
 {
     if stop == 0 {

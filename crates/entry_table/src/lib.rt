@@ -26,6 +26,7 @@ mod view;
 pub use changes::Exchanged;
 pub use draft::{Draft, Drawn, Linking};
 pub use entries::Entries;
+pub use follows::node_of;
 pub use pass::Pass;
 pub use view::{Drawing, Ruling, Shape, Told, View};
 

@@ -10,8 +10,8 @@ pub enum MessageFault {
     /// Two headers have one name.
     #[error("two headers have one name")]
     DoubleHeader,
-    /// A name has more than 255 bytes, there are more than 65,535 headers, or the encoding has more than
-    /// 1,048,576 bytes.
+    /// One of the limits is passed: that on the bytes of a name, on the number of headers, or on the bytes of
+    /// the whole. docs/FORMATS.md has the numbers.
     #[error("a name, the number of headers or the encoding passes its limit")]
     TooLong,
     #[error("out of memory")]

@@ -42,10 +42,11 @@ impl Model for Message {
 }
 
 impl Message {
-    /// The message of these parts. Names and texts have to be UTF-8. Refuses in this order: BadPriority exactly
-    /// where the priority is above 9; DoubleHeader exactly where two names are equal; TooLong exactly where a
-    /// name has more than 255 bytes, there are more than 65,535 headers, or the encoding has more than
-    /// 1,048,576 bytes. NoMemory may come in place of any.
+    /// The message of these parts, whose names and texts have to be UTF-8. A priority passes up to 9, and is else
+    /// refused as BadPriority. Headers need names of their own: else it is DoubleHeader. What is then left is
+    /// TooLong exactly where one of three limits is passed: 255 bytes for a name, 65,535 headers, and
+    /// 1,048,576 bytes for the whole encoding. Where several are true, the first of these is answered; want of
+    /// memory may come before them all.
     pub fn make(
         alloc: Global,
         id: u64,
@@ -80,9 +81,9 @@ impl Message {
         })
     }
 
-    /// The message whose encoding the bytes are, all of them. NotMessage exactly where they are no message's; `at`
-    /// is the first byte of the first field that is cut short, has no allowed value, is a second equal name or
-    /// isn't UTF-8. A name begins behind its length, and a text at its length. A byte after the body, and a byte
+    /// Reads a message back from its encoding, which has to be all of the bytes. NotMessage comes exactly where
+    /// no message is spelled so; `at` is then where the first faulty field begins: one that the bytes end in,
+    /// that has a value which it can't have, that repeats a name, or whose text isn't UTF-8. A name begins behind its length, and a text at its length. A byte after the body, and a byte
     /// above the limit of 1,048,576, is at fault where too many begin, unless an earlier place is at fault. NoMemory
     /// may come in place of any.
     pub fn decode(alloc: Global, bytes: &[u8]) -> Result<Message, DecodeFault>

@@ -1,7 +1,8 @@
 //! Rows: the entries of a queue, and the states that they go through.
 use byte_lists::{Bytes, Origin};
 
-/// The state of a row. A caller is a number; 0 is the one that made the queue.
+/// The state of a row. Whoever does something to a queue goes by a number, its caller number; the maker of the
+/// queue has 0.
 ///
 /// docs/QUEUE-MODEL.md, "States of an entry", has the picture.
 #[derive(Clone, Copy, Debug, PartialEq, Eq)]

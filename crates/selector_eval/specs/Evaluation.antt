@@ -35,7 +35,7 @@ property m name = if bytes_eq name (codes "JMSPriority") then number (pos m.prio
 
 -- ---- the forms of comparison
 
--- x BETWEEN a AND b is x >= a AND x <= b; x NOT BETWEEN a AND b is x < a OR x > b
+-- whether x is within both bounds, which count; negated, whether it is outside of one
 abbrev pub between : Bool → Value → Value → Value → Value
 between false x a b = value_and (compared GreaterEqual x a) (compared LessEqual x b)
 between true x a b = value_or (compared Less x a) (compared Greater x b)
@@ -45,7 +45,7 @@ abbrev pub not_if : Bool → Value → Value
 not_if false v = v
 not_if true v = value_not v
 
--- x IN (..) is the OR of x = s over the list
+-- whether x equals one of the texts
 abbrev pub equals_some : Value → List (List ℕ) → Value
 equals_some x [] = truth false
 equals_some x (s ∷ list) = value_or (compared Equal x (text s)) (equals_some x list)

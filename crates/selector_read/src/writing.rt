@@ -30,7 +30,7 @@ fn level(expr: &Expr) -> u8
     }
 }
 
-/// Puts a part at the end, in parentheses where its level is below the one that its place asks for.
+/// Writes a part behind what is there. It stands in parentheses if it binds less than its place needs.
 #[cycle(text)]
 fn put_part(out: &mut Vec<u8>, part: &Expr, asked: u8) -> Result<(), AllocError>
     ensures { OnOk result (out.new.items ≡ out.old.items ++ text_at asked (tree_of part.now)) }

@@ -1,8 +1,8 @@
 -- The law of cargoes holds of parcels: a content is never longer than the whole encoding.
-use Rattle.std.proofs.Common.{◌≡◌, ℕ, ◌+◌, ◌-◌, ◌≤◌, List, ◌++◌, length, arith, ap, refl}
+use Rattle.std.proofs.Common.{◌≡◌, ℕ, ◌+◌, ◌≤◌, ◌++◌, length, arith, ap}
 use Rattle.std.proofs.lemmas.List.{length-append}
 use Rattle.std.specs.Int.{w32, to_be_bytes}
-use Rattle.message_core.specs.Spelling.{Content, content, cut, front}
+use Rattle.message_core.specs.Spelling.{content, front}
 use Rattle.txn_core.specs.Shown.{Shown, content_of, missing, IsHere}
 use Rattle.txn_core.specs.Parcels.{shown, load_of}
 use Rattle.txn_core.specs.declared.parcels.Parcel.{Parcel}

@@ -1,13 +1,11 @@
-use Rattle.std.proofs.Common.{rules, ◌≡◌, ◌≢◌, ◌<◌, ◌≤◌, ℕ, ◌+◌, ◌*◌, ◌-◌, ◌∙◌, refl, sym, ap, arith, subst, List, suc, Option, Some, None, [], ◌∷◌, ◌++◌, set, ⊎_elim, true}
+use Rattle.std.proofs.Common.{◌≡◌, ℕ, ◌+◌, ◌-◌, ◌∙◌, refl, sym, ap, arith, subst, suc, Option, None, set}
 use Rattle.std.specs.Prelude.{slice_index}
-use Rattle.std.proofs.lemmas.Bool.{cases_eq}
 use Rattle.std.specs.Slots.{slots_items}
-use mathlib.Core.Option.{some}
 use lib.ListN.{get_elem?}
 use Rattle.link_core.specs.Stands.{IsDrafted}
 use Rattle.queue_model.specs.State.{place_at}
 use Rattle.link_core.specs.Layout.{row_link_of, state_of, head_of}
-use Rattle.entry_table.specs.Resting.{Walking, Rested, IsFor, is_live}
+use Rattle.entry_table.specs.Resting.{Walking, Rested}
 use Rattle.std.proofs.Common.{Vec, Global}
 use Rattle.entry_table.specs.Rule.{Carries}
 use Rattle.acts_core.specs.declared.cargoes.RestEntry.{RestEntry}

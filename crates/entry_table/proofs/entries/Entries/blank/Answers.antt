@@ -1,4 +1,4 @@
-use Rattle.std.proofs.Common.{rules, ◌∙◌, sym, ap, subst, List, ℕ, length, replicate, None}
+use Rattle.std.proofs.Common.{◌∙◌, sym, ap, subst, List, ℕ, length, replicate, None}
 use Rattle.atomic_table.specs.Table.{opening}
 use Rattle.entry_table.specs.Rule.{Ruled, boss}
 use Rattle.entry_table.proofs.Opening.{begins}

@@ -1,4 +1,4 @@
-use Rattle.std.proofs.Common.{rules, refl, sym, ap, ◌≡◌, ◌∙◌, ℕ}
+use Rattle.std.proofs.Common.{ap, ◌∙◌}
 use Rattle.entry_table.specs.Views.{caller_of}
 use Rattle.entry_table.proofs.Bringing.{holds_mine, home_ready, home_brought, after_brought}
 use Rattle.entry_table.proofs.entries.Entries.bring_at.Goals as goal

@@ -1,4 +1,4 @@
-use Rattle.std.proofs.Common.{rules, refl, arith, subst, sym, ap, ◌≡◌, ◌^◌, ◌<◌, ◌∙◌, ℕ}
+use Rattle.std.proofs.Common.{arith, subst, sym, ◌^◌, ◌<◌, ℕ}
 use Rattle.queue_model.specs.declared.rows.RowState.{RowState}
 use Rattle.queue_model.specs.declared.steps.Change.{Change}
 use Rattle.queue_model.specs.Packing.{pack_state}

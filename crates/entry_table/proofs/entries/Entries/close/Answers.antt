@@ -1,4 +1,3 @@
-use Rattle.std.proofs.Common.{rules}
 use Rattle.queue_model.specs.Sound.{RowFits}
 use Rattle.queue_model.specs.State.{is_row}
 use Rattle.queue_model.proofs.KeyedLemmas.{all-find}

@@ -1,4 +1,4 @@
-use Rattle.std.proofs.Common.{rules, refl, arith, ◌≡◌, ℕ, List, sym, ap, subst}
+use Rattle.std.proofs.Common.{rules, arith, ℕ, List, sym, subst}
 use Rattle.entry_table.specs.Views.{Has, rest_of}
 use Rattle.entry_table.proofs.Parting.{splits_allowed}
 use Rattle.entry_table.proofs.entries.Entries.cut.Goals as goal

@@ -1,4 +1,4 @@
-use Rattle.std.proofs.Common.{rules, refl, arith, subst, sym, ap, ◌≡◌, ◌∙◌, ℕ}
+use Rattle.std.proofs.Common.{arith, subst, ℕ}
 use Rattle.queue_model.specs.declared.rows.RowState.TheVariants.{Dequeued}
 use Rattle.queue_model.specs.declared.steps.Change.TheVariants.{Del}
 use Rattle.entry_table.specs.Homes.{deleted}

@@ -1,12 +1,8 @@
-use Rattle.std.proofs.Common.{rules, ◌≡◌, ◌≢◌, ◌∙◌, sym, ap, subst, ⊎_elim, ℕ}
-use Rattle.std.proofs.lemmas.Bool.{cases_eq}
+use Rattle.std.proofs.Common.{◌∙◌, ap}
 use Rattle.queue_model.specs.declared.rows.RowState.TheVariants.{Locked}
 use Rattle.queue_model.specs.declared.steps.Change.TheVariants.{Deq}
-use Rattle.queue_model.specs.State.{IsIn}
-use Rattle.queue_model.specs.Packing.{pack_state}
-use Rattle.entry_table.specs.Views.{caller_of, state_in}
-use Rattle.entry_table.specs.Plays.{ShowsState}
-use Rattle.entry_table.proofs.Exchanging.{shown_state, held_shows, after_ended, ended_hit}
+use Rattle.entry_table.specs.Views.{caller_of}
+use Rattle.entry_table.proofs.Exchanging.{after_ended, ended_hit}
 use Rattle.entry_table.proofs.entries.Entries.dequeue_at.Goals as goal
 
 pub returns-clause-table : goal.returns-clause-table

@@ -1,4 +1,4 @@
-use Rattle.std.proofs.Common.{◌≡◌, ◌∙◌, ℕ, sym, subst}
+use Rattle.std.proofs.Common.{◌∙◌, ℕ, sym, subst}
 use Rattle.entry_table.specs.Plays.{DidDraw, Seeks}
 use Rattle.entry_table.proofs.Seeking.{seeks_more, seeks_end}
 use Rattle.entry_table.proofs.entries.Entries.draw_at.Goals as goal

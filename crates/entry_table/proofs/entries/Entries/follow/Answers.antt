@@ -1,8 +1,7 @@
-use Rattle.std.proofs.Common.{◌≡◌, ◌++◌, ◌∷◌, [], List, subst, refl, sym}
+use Rattle.std.proofs.Common.{◌≡◌, ◌++◌, ◌∷◌, [], subst}
 use Rattle.queue_model.specs.declared.steps.Node.{Node}
 use Rattle.queue_model.specs.declared.steps.Step.TheVariants.{Load}
 use Rattle.queue_model.specs.declared.steps.WordName.TheVariants as names
-use Rattle.acts_core.specs.Walks.{node_at}
 use Rattle.entry_table.specs.Passes.{state, shown, seen}
 use Rattle.entry_table.specs.Plays.{Shows}
 use Rattle.entry_table.specs.Views.{entry}

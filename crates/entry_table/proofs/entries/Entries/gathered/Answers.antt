@@ -1,4 +1,4 @@
-use Rattle.std.proofs.Common.{rules, [], ◌≡◌, ◌<◌, ◌≤◌, ℕ, ◌+◌, ◌*◌, ◌∙◌, sym, ap, subst, arith, List, ◌∷◌}
+use Rattle.std.proofs.Common.{◌≡◌, ℕ, ◌∙◌, sym, ap, subst, arith, List, ◌∷◌}
 use Rattle.std.specs.Slots.{slots_items, slots_len, IsFull}
 use Rattle.atomic_table.specs.Table.{Final, Seen}
 use Rattle.queue_model.specs.declared.queues.Queue.{Queue}

@@ -1,4 +1,4 @@
-use Rattle.std.proofs.Common.{rules, arith, ◌≡◌, ℕ, sym, ap, ◌∙◌, subst}
+use Rattle.std.proofs.Common.{◌≡◌, sym, ap, ◌∙◌, subst}
 use Rattle.atomic_table.specs.declared.badge.Badge.{Badge}
 use Rattle.queue_model.specs.State.{reserved_by}
 use Rattle.queue_model.specs.Table.{CanGive}

@@ -1,4 +1,4 @@
-use Rattle.std.proofs.Common.{rules, refl, arith, subst, sym, ap, ◌≡◌, ◌∙◌, ℕ}
+use Rattle.std.proofs.Common.{arith, subst, sym, ap, ◌∙◌, ℕ}
 use Rattle.queue_model.specs.declared.steps.Node.{Node}
 use Rattle.link_core.specs.Layout.{tail_of}
 use Rattle.entry_table.specs.declared.view.Shape.{Shape}

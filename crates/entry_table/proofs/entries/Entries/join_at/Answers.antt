@@ -1,8 +1,7 @@
-use Rattle.std.proofs.Common.{rules, refl, arith, ◌≡◌, ◌∷◌, ◌++◌, ◌∙◌, ℕ, List, sym, ap, subst, inl, inr}
+use Rattle.std.proofs.Common.{rules, arith, ◌++◌, ◌∙◌, ℕ, List, ap}
 use Rattle.atomic_table.specs.Table.{Me}
 use Rattle.entry_table.specs.declared.view.View.{View}
 use Rattle.entry_table.specs.Views.{rest_of}
-use Rattle.entry_table.specs.Plays.{Joined, merged, settled}
 use Rattle.entry_table.proofs.Settling.{settles_allowed, joined_is}
 use Rattle.entry_table.proofs.entries.Entries.join_at.Goals as goal
 

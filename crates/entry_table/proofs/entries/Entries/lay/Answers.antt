@@ -1,8 +1,7 @@
-use Rattle.std.proofs.Common.{rules, ◌≡◌, ◌∙◌, ℕ, sym, subst}
+use Rattle.std.proofs.Common.{◌≡◌, ◌∙◌, ℕ, sym, subst}
 use Rattle.queue_model.specs.declared.steps.Node.{Node}
 use Rattle.entry_table.specs.Passes.{view}
-use Rattle.entry_table.specs.Plays.{CanLink, DidEnter, Blocked}
-use Rattle.entry_table.specs.Starting.{node_of}
+use Rattle.entry_table.specs.Plays.{CanLink}
 use Rattle.entry_table.proofs.Laying.{just_drawn, can_link, no_block, lay_done}
 use Rattle.entry_table.proofs.entries.Entries.lay.Goals as goal
 

@@ -1,10 +1,8 @@
-use Rattle.std.proofs.Common.{rules, ◌≡◌, ◌≤◌, ◌<◌, ◌∙◌, ℕ, List, length, reverse, take, drop, ◌++◌, refl, sym, ap, subst, arith}
+use Rattle.std.proofs.Common.{◌≡◌, ◌≤◌, ◌∙◌, length, reverse, take, drop, ◌++◌, refl, sym, ap, subst, arith}
 use Rattle.entry_table.specs.declared.view.Shape.{Shape}
 use Rattle.entry_table.specs.declared.view.View.{View}
-use Rattle.entry_table.specs.Rule.{boss}
 use Rattle.entry_table.specs.Passes.{view}
-use Rattle.entry_table.specs.Starting.{MayStart}
-use Rattle.entry_table.proofs.Ends.{Going, going_begins, going_next, going_ends, can_lay, lay_more, turned_items, zero_at, zeros}
+use Rattle.entry_table.proofs.Ends.{Going, going_begins, going_next, can_lay, lay_more, turned_items, zero_at, zeros}
 use Rattle.entry_table.proofs.entries.Entries.lay_all.Goals as goal
 
 pub entries-init : goal.entries-init

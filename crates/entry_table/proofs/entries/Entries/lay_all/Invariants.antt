@@ -1,5 +1,4 @@
 use Rattle.std.proofs.Common.{◌≡◌, vec_len}
-use Rattle.entry_table.specs.declared.view.Shape.{Shape}
 use Rattle.entry_table.specs.Passes.{IsPassOf, view}
 use Rattle.entry_table.proofs.Ends.{Going}
 use Rattle.entry_table.proofs.entries.Entries.lay_all.Given as goal

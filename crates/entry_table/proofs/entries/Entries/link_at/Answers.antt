@@ -1,11 +1,8 @@
-use Rattle.std.proofs.Common.{rules, ◌≡◌, ◌≢◌, ℕ, ◌<◌, ◌+◌, ◌*◌, [], ◌∷◌, List, Option, Some, None, sym, ap, ◌∙◌, subst, refl, arith}
+use Rattle.std.proofs.Common.{[], ap, ◌∙◌, subst, arith}
 use Rattle.atomic_table.specs.Table.{rest}
-use Rattle.queue_model.specs.declared.deeds.Deed.{Deed}
-use Rattle.entry_table.specs.declared.view.View.{View}
 use Rattle.entry_table.specs.declared.view.Shape.{Shape}
-use Rattle.entry_table.specs.declared.draft.Draft.{Draft}
-use Rattle.entry_table.specs.Views.{rest_of, caller_of, state_in}
-use Rattle.entry_table.specs.Plays.{LinkReady, Within, looked}
+use Rattle.entry_table.specs.Views.{state_in}
+use Rattle.entry_table.specs.Plays.{Within}
 use Rattle.entry_table.proofs.Joining.{node_low, link_ready, link_hit, link_miss, after_miss, after_went, told_link, same_cargo}
 use Rattle.entry_table.proofs.entries.Entries.link_at.Goals as goal
 

@@ -1,9 +1,9 @@
-use Rattle.std.proofs.Common.{rules, refl, arith, subst, sym, ap, ◌≡◌, ◌∙◌, ℕ, suc, ◌+◌, ◌<◌}
+use Rattle.std.proofs.Common.{rules, arith, subst, sym, ap, ◌∙◌, ℕ}
 use Rattle.queue_model.specs.declared.steps.Node.{Node}
 use Rattle.link_core.specs.Layout.{link_of}
 use Rattle.entry_table.specs.declared.view.Shape.{Shape}
-use Rattle.entry_table.specs.Plays.{Linkable, linking}
-use Rattle.entry_table.specs.Views.{caller_of, rest_of, state_in}
+use Rattle.entry_table.specs.Plays.{linking}
+use Rattle.entry_table.specs.Views.{rest_of}
 use Rattle.entry_table.proofs.Entering.{links_at}
 use Rattle.entry_table.proofs.entries.Entries.link_word.Goals as goal
 

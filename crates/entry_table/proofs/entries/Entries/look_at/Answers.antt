@@ -1,4 +1,4 @@
-use Rattle.std.proofs.Common.{rules, refl, arith, sym, ap, ◌∙◌, subst, ◌≡◌, ℕ, ◌<◌, ◌+◌, ◌*◌}
+use Rattle.std.proofs.Common.{rules, arith, sym, ap, ◌∙◌, subst}
 use Rattle.queue_model.specs.declared.steps.Step.{Step}
 use Rattle.link_core.specs.Steps.{place_of_step}
 use Rattle.entry_table.specs.declared.view.Shape.{Shape}

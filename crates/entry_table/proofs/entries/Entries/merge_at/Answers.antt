@@ -1,4 +1,4 @@
-use Rattle.std.proofs.Common.{rules, refl, arith, ◌≡◌, ℕ, List, sym, ap, subst}
+use Rattle.std.proofs.Common.{rules, arith}
 use Rattle.entry_table.specs.Views.{rest_of}
 use Rattle.entry_table.proofs.Parting.{joins_allowed}
 use Rattle.entry_table.proofs.entries.Entries.merge_at.Goals as goal

@@ -1,4 +1,4 @@
-use Rattle.std.proofs.Common.{rules, refl, arith}
+use Rattle.std.proofs.Common.{rules, arith}
 use Rattle.entry_table.specs.Views.{rest_of}
 use Rattle.entry_table.proofs.Parting.{notes_allowed}
 use Rattle.entry_table.proofs.entries.Entries.note_at.Goals as goal

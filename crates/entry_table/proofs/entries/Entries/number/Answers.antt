@@ -1,4 +1,4 @@
-use Rattle.std.proofs.Common.{rules, refl, arith, ◌≡◌, ℕ, List, sym, ap, subst}
+use Rattle.std.proofs.Common.{rules, arith}
 use Rattle.entry_table.specs.Views.{rest_of}
 use Rattle.entry_table.proofs.Parting.{numbers_allowed}
 use Rattle.entry_table.proofs.entries.Entries.number.Goals as goal

@@ -1,4 +1,4 @@
-use Rattle.std.proofs.Common.{rules, refl, arith}
+use Rattle.std.proofs.Common.{arith}
 use Rattle.entry_table.specs.Views.{rest_of}
 use Rattle.entry_table.proofs.Opening.{opens_allowed}
 use Rattle.entry_table.proofs.entries.Entries.open_at.Goals as goal

@@ -1,11 +1,11 @@
-use Rattle.std.proofs.Common.{rules, ◌≡◌, ◌∙◌, ◌+◌, refl, sym, ap, subst, arith, length}
+use Rattle.std.proofs.Common.{◌≡◌, ◌∙◌, refl, sym, ap, subst, arith}
 use Rattle.queue_model.specs.declared.queues.Queue.{Queue}
 use Rattle.queue_model.specs.Sound.{IsOpening}
 use Rattle.entry_table.specs.declared.view.Shape.{Shape}
 use Rattle.entry_table.specs.declared.view.View.{View}
 use Rattle.entry_table.specs.Rule.{below}
 use Rattle.entry_table.specs.Passes.{view}
-use Rattle.entry_table.specs.Starting.{IsMade, AreStarted}
+use Rattle.entry_table.specs.Starting.{AreStarted}
 use Rattle.entry_table.proofs.Ends.{laid_opens}
 use Rattle.entry_table.proofs.entries.Entries.opened.Goals as goal
 

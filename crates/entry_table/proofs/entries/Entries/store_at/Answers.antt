@@ -1,6 +1,5 @@
-use Rattle.std.proofs.Common.{rules, refl, arith, ◌≡◌, ◌<◌, ◌+◌, ◌*◌, ℕ, sym, ap, ◌∙◌, subst}
+use Rattle.std.proofs.Common.{arith, ◌≡◌, ◌<◌, ℕ, ap, subst}
 use Rattle.queue_model.specs.declared.steps.DraftWord.{DraftWord}
-use Rattle.link_core.specs.Layout.{draft_of}
 use Rattle.link_core.proofs.Frames.{draft_high}
 use Rattle.entry_table.specs.declared.view.Shape.{Shape}
 use Rattle.entry_table.specs.Views.{rest_of}

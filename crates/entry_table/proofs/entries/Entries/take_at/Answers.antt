@@ -1,4 +1,4 @@
-use Rattle.std.proofs.Common.{rules, ◌≡◌, ◌≢◌, ◌∙◌, sym, ap, subst, inr, List, ℕ}
+use Rattle.std.proofs.Common.{◌≢◌, ◌∙◌, sym, ap, subst, inr, List, ℕ}
 use Rattle.queue_model.specs.declared.rows.RowState.{RowState}
 use Rattle.queue_model.specs.declared.rows.RowState.TheVariants.{Locked}
 use Rattle.queue_model.specs.declared.queues.Queue.{Queue}

@@ -1,4 +1,4 @@
-use Rattle.std.proofs.Common.{rules, refl, arith}
+use Rattle.std.proofs.Common.{arith}
 use Rattle.entry_table.specs.Views.{rest_of}
 use Rattle.entry_table.proofs.Exchanging.{takes_at}
 use Rattle.entry_table.proofs.entries.Entries.take_word.Goals as goal

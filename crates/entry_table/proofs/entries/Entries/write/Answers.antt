@@ -1,4 +1,4 @@
-use Rattle.std.proofs.Common.{rules, ◌∙◌}
+use Rattle.std.proofs.Common.{◌∙◌}
 use Rattle.queue_model.specs.declared.steps.DraftWord.TheVariants.{Mask, Place, Ident, Size, List}
 use Rattle.entry_table.specs.Passes.{view}
 use Rattle.entry_table.proofs.Laying.{first_word, word_more, all_words, still_drawn}
