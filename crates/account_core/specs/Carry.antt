@@ -8,6 +8,7 @@ use Rattle.queue_model.specs.Sound.{IsOpening}
 use Rattle.queue_model.specs.State.{rows_of}
 use Rattle.acts_core.specs.Sight.{Kind, Listed, Sorted, LastValue, Plan}
 use Rattle.defs_read.specs.Defined.{Defined}
+use Rattle.defs_read.specs.Slips.{lists_of}
 use Rattle.defs_read.specs.declared.defs.QueueKind.{QueueKind}
 use Rattle.defs_read.specs.declared.defs.QueueKind.TheVariants as kinds
 use Rattle.account_core.specs.Played.{Played, rest_of}
@@ -58,13 +59,6 @@ kind_of kinds.Standard = Listed
 kind_of (kinds.Priority n) = Listed
 kind_of (kinds.Sorted key) = Sorted
 kind_of (kinds.LastValue key) = LastValue
-
--- and how many lists it has
-abbrev pub lists_of : QueueKind → ℕ
-lists_of kinds.Standard = 1
-lists_of (kinds.Priority n) = n
-lists_of (kinds.Sorted key) = 1
-lists_of (kinds.LastValue key) = 1
 
 -- whether queues of a kind ring and take bells: none does yet
 abbrev pub uses_bells : Kind → Bool

@@ -44,6 +44,22 @@ const RUNS: &[(&[&str], Status, &str)] = &[
         Status::Done,
         "a 2 ok 7\na 3 got 7 1\na 4 released 7\na 5 got 7 2\nqueue q 1 16\nentry 7 held a\n",
     ),
+    // A message that comes back is delivered a second time.
+    (
+        &[
+            "{\"queues\":[{\"name\":\"orders\",\"consumers\":[{\"name\":\"worker\",\"actor\":\"ann\"}]}]}\n",
+            "\n",
+            "{\"do\":\"put\",\"actor\":\"ann\",\"queue\":\"orders\",\"id\":1,\"priority\":7,\"headers\":{\"kind\":\"book\",\"count\":2},\"body\":\"first\"}\n",
+            "{\"do\":\"put\",\"actor\":\"ann\",\"queue\":\"orders\",\"id\":2,\"body\":\"second\"}\n",
+            "{\"do\":\"take\",\"actor\":\"ann\",\"consumer\":\"worker\"}\n",
+            "{\"do\":\"take\",\"actor\":\"ann\",\"consumer\":\"worker\"}\n",
+            "{\"do\":\"release\",\"actor\":\"ann\",\"queue\":\"orders\",\"id\":1}\n",
+            "{\"do\":\"ack\",\"actor\":\"ann\",\"queue\":\"orders\"}\n",
+            "{\"do\":\"take\",\"actor\":\"ann\",\"consumer\":\"worker\"}\n",
+        ],
+        Status::Done,
+        "ann 3 ok 1\nann 4 ok 2\nann 5 got 1 1\nann 6 got 2 1\nann 7 released 1\nann 8 acked 2\nann 9 got 1 2\nqueue orders 1 50\nentry 1 held ann\n",
+    ),
     // Without an id the last message is meant that is held.
     (
         &[Q, PUT_7, PUT_8, TAKE, TAKE, RELEASE, ACK, ACK, TAKE],
@@ -271,6 +287,18 @@ const SELECTIONS: &[(&str, &[&str], Status, &str)] = &[
         ],
         Status::Done,
         "true\nunknown\n",
+    ),
+    (
+        "region = 'north' AND weight < 20",
+        &[
+            "{\"id\":1,\"headers\":{\"region\":\"north\",\"weight\":12}}\n",
+            "{\"id\":2,\"headers\":{\"region\":\"south\",\"weight\":3}}\n",
+            "{\"id\":3,\"headers\":{\"region\":\"north\"}}\n",
+            "\n",
+            "{\"id\":4,\"priority\":9,\"headers\":{\"region\":\"north\",\"weight\":40}}\n",
+        ],
+        Status::Done,
+        "true\nfalse\nunknown\nfalse\n",
     ),
     (
         "x LIKE 'a!_%' ESCAPE '!'",
@@ -583,5 +611,18 @@ fn ample(rt: HostRuntime) -> Result<(), Fail> {
     assert_eq!(rt; fault.line(), 3);
     assert_eq!(rt; fault.cause(), "NotBuilt");
     assert_eq!(rt; Status::NoMemory.code(), 6);
-    Ok(())
+    let input = joined(rt.alloc(), &[Q])?;
+    let want = (Status::Done, "queue q 0 0\n");
+    check(&rt, Call::Run, &["run"], input, (&[], &[]), 100, want)?;
+    let input = joined(rt.alloc(), &["{\"id\":1}"])?;
+    let want = (Status::Done, "true\n");
+    check(
+        &rt,
+        Call::Select,
+        &["select", "1 = 1"],
+        input,
+        (&[], &[]),
+        100,
+        want,
+    )
 }

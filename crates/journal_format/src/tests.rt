@@ -51,14 +51,67 @@ fn fault(rt: &impl Abort, alloc: Global, bytes: &[u8], at: u64) -> u64 {
     }
 }
 
-/// The same where some bytes of the journal are others.
-fn fault_with(rt: &impl Abort, alloc: Global, changes: &[(usize, u8)]) -> u64 {
+/// Two bytes of the journal that are others, by their places, and the place of the fault that they make.
+type Broken = ((usize, u8), (usize, u8), u64);
+
+/// One broken encoding for each cause and place.
+const BROKEN: [Broken; 24] = [
+    // the length: it leaves no byte for the next gate, or says more than there is
+    ((24, 34), (24, 34), 17),
+    ((17, 128), (24, 33), 17),
+    // the number of transactions: cut, none, one too many
+    ((24, 3), (24, 3), 25),
+    ((28, 0), (28, 0), 25),
+    ((28, 2), (28, 2), 58),
+    // the number of items: cut, none, 65,537, one too many
+    ((24, 6), (24, 6), 29),
+    ((32, 0), (32, 0), 29),
+    ((30, 1), (32, 1), 29),
+    ((32, 2), (32, 2), 58),
+    // a byte is left over
+    ((55, 1), (39, 17), 57),
+    // the tag
+    ((33, 0), (33, 0), 33),
+    ((33, 3), (33, 3), 33),
+    // the queue's name: empty, of 65 bytes, cut
+    ((34, 0), (34, 0), 34),
+    ((34, 65), (34, 65), 34),
+    ((34, 64), (34, 64), 34),
+    // the length of the message, the message and an id: cut
+    ((24, 13), (24, 13), 36),
+    ((39, 19), (39, 19), 40),
+    ((33, 2), (24, 18), 36),
+    // within the message: its id is cut, not persistent, flag 2, priority 10, and the earlier of two
+    ((39, 7), (39, 7), 40),
+    ((48, 0), (48, 0), 48),
+    ((48, 2), (48, 2), 48),
+    ((49, 10), (49, 10), 49),
+    ((48, 0), (49, 10), 48),
+    // its body is cut
+    ((39, 17), (39, 17), 56),
+];
+
+/// The place of the first fault where two bytes of the journal are others.
+fn fault_with(rt: &impl Abort, alloc: Global, first: (usize, u8), second: (usize, u8)) -> u64 {
     let mut changed = Vec::from_slice(alloc, JOURNAL).expect(rt, "memory");
-    for (at, byte) in changes {
-        assert!(rt; *at < changed.len());
-        changed[*at] = *byte;
-    }
+    assert!(rt; first.0 < changed.len() && second.0 < changed.len());
+    changed[first.0] = first.1;
+    changed[second.0] = second.1;
     fault(rt, alloc, &changed, LENGTH)
+}
+
+#[test]
+fn first_faults(rt: HostRuntime) {
+    let alloc = rt.alloc();
+    for (first, second, place) in BROKEN {
+        assert_eq!(rt; fault_with(&rt, alloc, first, second), place);
+    }
+    assert_eq!(rt;
+        fault(&rt, alloc, &JOURNAL[..20], LENGTH),
+        17,
+        "the length is cut"
+    );
+    assert_eq!(rt; fault(&rt, alloc, JOURNAL, 70), 70, "past the end");
 }
 
 #[test]
@@ -92,108 +145,6 @@ fn gone_read(rt: HostRuntime) {
         }
         _ => panic!(rt; "no entry"),
     }
-}
-
-#[test]
-fn faults_of_lengths(rt: HostRuntime) {
-    let alloc = rt.alloc();
-    assert_eq!(rt;
-        fault(&rt, alloc, &JOURNAL[..20], LENGTH),
-        17,
-        "the length is cut"
-    );
-    assert_eq!(rt; fault(&rt, alloc, JOURNAL, 70), 70, "past the end");
-    assert_eq!(rt;
-        fault_with(&rt, alloc, &[(24, 34)]),
-        17,
-        "no byte for the next gate"
-    );
-    assert_eq!(rt;
-        fault_with(&rt, alloc, &[(17, 128)]),
-        17,
-        "more bytes than there are"
-    );
-    assert_eq!(rt;
-        fault_with(&rt, alloc, &[(24, 3)]),
-        25,
-        "the number of transactions is cut"
-    );
-    assert_eq!(rt; fault_with(&rt, alloc, &[(28, 0)]), 25, "no transaction");
-    assert_eq!(rt;
-        fault_with(&rt, alloc, &[(28, 2)]),
-        58,
-        "the second one is missing"
-    );
-    assert_eq!(rt;
-        fault_with(&rt, alloc, &[(24, 6)]),
-        29,
-        "the number of items is cut"
-    );
-    assert_eq!(rt; fault_with(&rt, alloc, &[(32, 0)]), 29, "no item");
-    assert_eq!(rt; fault_with(&rt, alloc, &[(30, 1)]), 29, "65,537 items");
-    assert_eq!(rt;
-        fault_with(&rt, alloc, &[(32, 2)]),
-        58,
-        "the second item is missing"
-    );
-    assert_eq!(rt;
-        fault_with(&rt, alloc, &[(55, 1), (39, 17)]),
-        57,
-        "a byte left over"
-    );
-}
-
-#[test]
-fn faults_of_items(rt: HostRuntime) {
-    let alloc = rt.alloc();
-    assert_eq!(rt; fault_with(&rt, alloc, &[(33, 0)]), 33, "tag 0");
-    assert_eq!(rt; fault_with(&rt, alloc, &[(33, 3)]), 33, "tag 3");
-    assert_eq!(rt; fault_with(&rt, alloc, &[(34, 0)]), 34, "an empty name");
-    assert_eq!(rt;
-        fault_with(&rt, alloc, &[(34, 65)]),
-        34,
-        "a name of 65 bytes"
-    );
-    assert_eq!(rt; fault_with(&rt, alloc, &[(34, 64)]), 34, "the name is cut");
-    assert_eq!(rt;
-        fault_with(&rt, alloc, &[(24, 13)]),
-        36,
-        "the length of the message is cut"
-    );
-    assert_eq!(rt;
-        fault_with(&rt, alloc, &[(39, 19)]),
-        40,
-        "the message is cut"
-    );
-    assert_eq!(rt;
-        fault_with(&rt, alloc, &[(33, 2), (24, 18)]),
-        36,
-        "the id is cut"
-    );
-}
-
-#[test]
-fn faults_of_messages(rt: HostRuntime) {
-    let alloc = rt.alloc();
-    assert_eq!(rt; fault_with(&rt, alloc, &[(48, 0)]), 48, "not persistent");
-    assert_eq!(rt; fault_with(&rt, alloc, &[(48, 2)]), 48, "flag 2");
-    assert_eq!(rt; fault_with(&rt, alloc, &[(49, 10)]), 49, "priority 10");
-    assert_eq!(rt;
-        fault_with(&rt, alloc, &[(48, 0), (49, 10)]),
-        48,
-        "the earlier of two"
-    );
-    assert_eq!(rt; fault_with(&rt, alloc, &[(39, 17)]), 56, "the body is cut");
-    assert_eq!(rt;
-        fault_with(&rt, alloc, &[(55, 1)]),
-        57,
-        "a byte after the body"
-    );
-    assert_eq!(rt;
-        fault_with(&rt, alloc, &[(39, 7)]),
-        40,
-        "the id of the message is cut"
-    );
 }
 
 /// Makes every call that may want memory, with ample memory, and compares the answer.

@@ -7,5 +7,10 @@ mod keys;
 pub mod laws;
 mod passing;
 mod reading;
+mod recovery;
 
 pub use kept::{Kept, Recovered};
+pub use recovery::recover;
+
+#[cfg(test)]
+mod tests;
