@@ -2,5 +2,7 @@
 #![tactic(auto)]
 
 mod kinds;
+mod passes;
 
 pub use kinds::{AnyPass, AnyQueue};
+
