@@ -83,14 +83,14 @@ is_joined old gone new same j = record {
   own_acts = own_none old (seen new) j.mine;
   gone_acts = λ k m. j.gone.callers k (mem_has k (callers gone) (subst (Mem k) (sym gone.speaks) m));
   sight =
-    sight_joined old gone new same old.speaks j
-    ∙ ap (λ (ks : List ℕ). record (sight old) {
-      consumers = (view old).consumers ++ (view gone).consumers;
-      allowance = allowance old + allowance gone;
-      share = share old + share gone;
-      ended = rest_of (callers old) ++ ks;
-      seen = seen new;
-    }) gone.speaks;
+      sight_joined old gone new same old.speaks j
+      ∙ ap (λ (ks : List ℕ). record (sight old) {
+        consumers = (view old).consumers ++ (view gone).consumers;
+        allowance = allowance old + allowance gone;
+        share = share old + share gone;
+        ended = rest_of (callers old) ++ ks;
+        seen = seen new;
+      }) gone.speaks;
 }
 
 -- of the pass that is left, every caller
