@@ -1,4 +1,4 @@
-use Rattle.std.proofs.Common.{rules, ◌≡◌, ◌≢◌, ◌⊎◌, inl, ◌<◌, ◌≤◌, ◌+◌, ℕ, true, false, Some, None, List, [], ◌∷◌, ◌++◌, length, filter, ◌==◌, refl, sym, ap, ◌∙◌, subst, arith, ne_eqb, length-append}
+use Rattle.std.proofs.Common.{◌≡◌, ◌≢◌, inl, ◌<◌, ◌≤◌, ◌+◌, ℕ, false, Some, [], ◌∷◌, filter, ◌==◌, refl, sym, ap, ◌∙◌, subst, arith, ne_eqb, length-append}
 use Rattle.std.proofs.lemmas.Bool.{cond-false}
 use Rattle.history_lock.specs.declared.view.View.{View}
 use Rattle.history_lock.specs.Counting.{counting}
