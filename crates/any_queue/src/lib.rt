@@ -5,4 +5,3 @@ mod kinds;
 mod passes;
 
 pub use kinds::{AnyPass, AnyQueue};
-

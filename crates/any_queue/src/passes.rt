@@ -45,7 +45,13 @@ impl<C: Freight> AnyQueue<C> {
         ensures serves { IfOk result (λ r. ServesAny r.0 r.1) }
         ensures fresh { IfOk result (λ r. IsFresh C.goods (lists_of def.now.kind) rows (vec_len def.now.consumers) start.items (build_in r.0) (sight_in r.1)) }
     {
-        match Entries::make(alloc, lists_of(&def.kind), rows, def.consumers.len() as u32, start) {
+        match Entries::make(
+            alloc,
+            lists_of(&def.kind),
+            rows,
+            def.consumers.len() as u32,
+            start,
+        ) {
             Ok((entries, pass)) => Ok((AnyQueue::Listed(entries), AnyPass::Listed(pass))),
             Err(_) => Err(NoMemory),
         }
@@ -100,7 +106,12 @@ impl<C: Freight> AnyQueue<C> {
 }
 
 // A split of a standard or priority queue's pass.
-fn split_listed<C: Freight>(entries: &Entries<C>, boss: &mut Pass, consumers: &[u32], allowance: u64) -> Pass
+fn split_listed<C: Freight>(
+    entries: &Entries<C>,
+    boss: &mut Pass,
+    consumers: &[u32],
+    allowance: u64,
+) -> Pass
     requires serves { Serves entries.now boss.old }
     requires may { MayPart (sight boss.old) consumers.now allowance }
     ensures serves { Serves entries.now boss.new × Serves entries.now result }
