@@ -1,20 +1,17 @@
 -- passes that a table made, split off and joined, as queues of all kinds show them
-use Rattle.std.proofs.Common.{◌≡◌, ℕ, ◌+◌, ◌-◌, ◌<◌, List, [], ◌∷◌, ◌++◌, refl, sym, ap, ◌∙◌, subst, append-nil, ⊎_elim}
+use Rattle.std.proofs.Common.{◌≡◌, ℕ, ◌+◌, ◌<◌, List, [], ◌∷◌, ◌++◌, sym, ap, ◌∙◌, subst, append-nil, ⊎_elim}
 use mathlib.Core.List.{Mem, mem-cons_of_mem, mem-cons_self}
 use Rattle.queue_model.specs.declared.deeds.Deed.{Deed}
-use Rattle.queue_model.specs.declared.queues.Queue.{Queue}
 use Rattle.queue_model.specs.declared.rows.Slip.{Slip}
-use Rattle.queue_model.specs.History.{Legal, own, after}
+use Rattle.queue_model.specs.History.{own, after}
 use Rattle.acts_core.specs.Load.{Load}
-use Rattle.acts_core.specs.Sight.{silent_lists, Sight}
+use Rattle.acts_core.specs.Sight.{silent_lists}
 use Rattle.entry_table.specs.declared.entries.Entries.{Entries}
 use Rattle.entry_table.specs.declared.pass.Pass.{Pass}
 use Rattle.entry_table.specs.declared.view.Shape.{Shape}
-use Rattle.entry_table.specs.declared.view.View.{View}
-use Rattle.entry_table.specs.Passes.{IsPassOf, view, opening, seen, callers, allowance, share}
+use Rattle.entry_table.specs.Passes.{view, opening, seen, callers, allowance, share}
 use Rattle.entry_table.specs.Plays.{Steps, DidSplit, Joined}
-use Rattle.entry_table.specs.Rule.{below}
-use Rattle.entry_table.specs.Sights.{sight, build_of, Serves}
+use Rattle.entry_table.specs.Sights.{sight, build_of}
 use Rattle.entry_table.specs.Starting.{IsMade}
 use Rattle.entry_table.specs.Views.{Has, caller_of, rest_of}
 use Rattle.entry_table.proofs.Concerning.{in_has}
