@@ -57,8 +57,8 @@ other_id old new id row n k a s d shows e other = record {
   rights = same_rights old new a s;
   heads = λ m. refl;
   fails = λ x found same.
-    let here : row_at (after (opening new) (seen new)) row ≡ Some x = subst (λ (o : Queue). row_at (after o (seen new)) row ≡ Some x) (sym k.opening) found in
-    absurd (other (sym (id_told (after (opening new) (seen new)) row n x shows here) ∙ same));
+      let here : row_at (after (opening new) (seen new)) row ≡ Some x = subst (λ (o : Queue). row_at (after o (seen new)) row ≡ Some x) (sym k.opening) found in
+      absurd (other (sym (id_told (after (opening new) (seen new)) row n x shows here) ∙ same));
 }
 
 -- the id of a row is what it was when loaded
@@ -86,8 +86,7 @@ module _ (old mid new : Pass) (id row n : ℕ) (y : Row) (k : Kept old mid) (a :
   row_now : (x : Row) × (row_at (after (opening new) (seen new)) row ≡ Some x) × (row_at (after (opening old) (seen new)) row ≡ Some x)
   row_now =
       let t = row_stays (after (opening mid) (seen mid)) d'.prefix.0 row y there in
-      let here : row_at (after (opening mid) (seen new)) row ≡ Some t.0 = subst (λ (q : Queue). row_at q row ≡ Some t.0) (after_rest (opening mid) (seen mid) (seen new) d'.prefix) t.1 in
-      (
+      let here : row_at (after (opening mid) (seen new)) row ≡ Some t.0 = subst (λ (q : Queue). row_at q row ≡ Some t.0) (after_rest (opening mid) (seen mid) (seen new) d'.prefix) t.1 in (
         t.0,
         subst (λ (o : Queue). row_at (after o (seen new)) row ≡ Some t.0) (sym k'.opening) here,
         subst (λ (o : Queue). row_at (after o (seen new)) row ≡ Some t.0) k.opening here,
@@ -100,8 +99,8 @@ module _ (old mid new : Pass) (id row n : ℕ) (y : Row) (k : Kept old mid) (a :
     rights = both_rights;
     heads = λ m. refl;
     fails = λ x found same.
-      let here : row_at (after (opening new) (seen new)) row ≡ Some x = subst (λ (o : Queue). row_at (after o (seen new)) row ≡ Some x) (sym k'.opening) (subst (λ (o : Queue). row_at (after o (seen new)) row ≡ Some x) (sym k.opening) found) in
-      gone_word x.state n (state_told (after (opening new) (seen new)) row n x shows' here) gone;
+        let here : row_at (after (opening new) (seen new)) row ≡ Some x = subst (λ (o : Queue). row_at (after o (seen new)) row ≡ Some x) (sym k'.opening) (subst (λ (o : Queue). row_at (after o (seen new)) row ≡ Some x) (sym k.opening) found) in
+        gone_word x.state n (state_told (after (opening new) (seen new)) row n x shows' here) gone;
   }
 
   pub spotted_row : n ≢ 3 → Spotted (sight old) (sight new) id row
