@@ -1,7 +1,7 @@
 -- changes of rows and looks at them, as what the table's calls say
-use Rattle.std.proofs.Common.{◌≡◌, ◌≢◌, ℕ, suc, ◌+◌, List, [], ◌∷◌, ◌++◌, Option, Some, None, Result, Ok, Err, refl, sym, ap, ◌∙◌, subst, append_assoc, append-nil, eq-eqb}
+use Rattle.std.proofs.Common.{◌≡◌, ◌≢◌, ℕ, List, [], ◌∷◌, ◌++◌, Option, Some, Ok, refl, sym, ap, ◌∙◌, subst, append_assoc, append-nil, eq-eqb}
 use mathlib.Core.List.{IsPrefix}
-use mathlib.Core.List.{Mem, mem-cons_self}
+use mathlib.Core.List.{mem-cons_self}
 use Rattle.queue_model.specs.declared.deeds.Act.{Act}
 use Rattle.queue_model.specs.declared.deeds.Deed.{Deed}
 use Rattle.queue_model.specs.declared.queues.Queue.{Queue}
@@ -9,7 +9,6 @@ use Rattle.queue_model.specs.declared.rows.Row.{Row}
 use Rattle.queue_model.specs.declared.rows.RowState.{RowState}
 use Rattle.queue_model.specs.declared.rows.RowState.TheVariants.{Locked}
 use Rattle.queue_model.specs.declared.steps.Change.{Change}
-use Rattle.queue_model.specs.declared.steps.Step.{Step}
 use Rattle.queue_model.specs.declared.steps.Step.TheVariants as steps
 use Rattle.queue_model.specs.declared.steps.Tried.{Tried}
 use Rattle.queue_model.specs.declared.steps.WordName.TheVariants as names
@@ -22,14 +21,14 @@ use Rattle.queue_model.proofs.Prefixes.{prefix_self}
 use Rattle.queue_model.proofs.Stable.{row_stays}
 use Rattle.acts_core.specs.Load.{Load}
 use Rattle.acts_core.specs.Lists.{Saw}
-use Rattle.acts_core.specs.Moments.{Between, JustBefore}
+use Rattle.acts_core.specs.Moments.{JustBefore}
 use Rattle.acts_core.specs.Sight.{Showed}
 use Rattle.link_core.specs.Steps.{goes_to, act_with}
 use Rattle.entry_table.specs.declared.pass.Pass.{Pass}
 use Rattle.entry_table.specs.declared.view.View.{View}
 use Rattle.entry_table.specs.Homes.{Brought}
 use Rattle.entry_table.specs.Passes.{Kept, Did, view, opening, seen, shown, callers, consumers}
-use Rattle.entry_table.specs.Plays.{Steps, Shows, Went, DidChange, ShowsState, Slotted, Taking, by_me, quiet}
+use Rattle.entry_table.specs.Plays.{Steps, Shows, DidChange, ShowsState, Taking, by_me, quiet}
 use Rattle.entry_table.specs.Rule.{Carries}
 use Rattle.entry_table.specs.Views.{caller_of, entry}
 use Rattle.entry_calls.specs.Changed.{Changed, Looks}

@@ -1,5 +1,5 @@
 -- calls on the depth
-use Rattle.std.proofs.Common.{◌≡◌, ℕ, suc, ◌+◌, ◌-◌, ◌*◌, ◌/◌, ◌%◌, ◌≤◌, ◌<◌, true, List, [], ◌∷◌, ◌++◌, refl, sym, ap, ◌∙◌, subst, append-nil, arith}
+use Rattle.std.proofs.Common.{◌≡◌, ℕ, ◌+◌, ◌/◌, ◌%◌, ◌<◌, [], ◌∷◌, ◌++◌, refl, sym, ap, ◌∙◌, subst, append-nil, arith}
 use mathlib.Core.List.{mem-cons_self}
 use Rattle.queue_model.specs.declared.deeds.Act.TheVariants as acts
 use Rattle.queue_model.specs.declared.queues.Depth.{Depth}
@@ -9,9 +9,7 @@ use Rattle.queue_model.specs.declared.steps.Tried.{Tried}
 use Rattle.queue_model.specs.declared.steps.WordName.TheVariants as names
 use Rattle.queue_model.specs.History.{after, deed}
 use Rattle.queue_model.specs.Packing.{pack_depth, entry_worth}
-use Rattle.queue_model.specs.Sound.{Sound}
 use Rattle.queue_model.specs.State.{entries, bytes, depth}
-use Rattle.queue_model.specs.Table.{most_bytes, most_entries}
 use Rattle.queue_model.proofs.Depths.{depth_low}
 use Rattle.queue_model.proofs.Prefixes.{prefix_self}
 use Rattle.acts_core.specs.Calls.{CallDepth, CallReserve, CallGiveBack, IsDepth, IsDone}
@@ -19,7 +17,7 @@ use Rattle.acts_core.specs.Meaning.{Called}
 use Rattle.acts_core.proofs.Stepping.{called_by}
 use Rattle.entry_table.specs.declared.entries.Entries.{Entries}
 use Rattle.entry_table.specs.declared.pass.Pass.{Pass}
-use Rattle.entry_table.specs.Passes.{Kept, Did, ShowsDepth, opening, seen, shown, allowance, share, state}
+use Rattle.entry_table.specs.Passes.{Kept, Did, ShowsDepth, seen, shown, allowance, share, state}
 use Rattle.entry_table.specs.Plays.{Shows}
 use Rattle.entry_table.specs.Sights.{sight, build_of}
 use Rattle.entry_table.specs.Views.{entry}

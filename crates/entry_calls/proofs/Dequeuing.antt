@@ -1,5 +1,5 @@
 -- a row that is dequeued, and what is given back for it
-use Rattle.std.proofs.Common.{◌≡◌, ℕ, ◌+◌, ◌-◌, ◌*◌, ◌≤◌, List, [], ◌∷◌, ◌++◌, Option, Some, None, refl, sym, ap, ◌∙◌, subst, arith}
+use Rattle.std.proofs.Common.{◌≡◌, ℕ, ◌+◌, ◌-◌, ◌*◌, ◌≤◌, List, [], ◌∷◌, ◌++◌, Some, None, refl, sym, ap, ◌∙◌, subst, arith}
 use mathlib.Core.List.{IsPrefix}
 use Rattle.queue_model.specs.declared.deeds.Act.TheVariants as acts
 use Rattle.queue_model.specs.declared.deeds.Deed.{Deed}
@@ -13,7 +13,7 @@ use Rattle.queue_model.specs.declared.steps.DraftWord.TheVariants as drafts
 use Rattle.queue_model.specs.declared.steps.Step.TheVariants as steps
 use Rattle.queue_model.specs.declared.steps.Tried.{Tried}
 use Rattle.queue_model.specs.declared.steps.WordName.TheVariants as names
-use Rattle.queue_model.specs.History.{after, Legal, own, deed, deeds_of}
+use Rattle.queue_model.specs.History.{after, Legal, deed}
 use Rattle.queue_model.specs.Sound.{IsOpening}
 use Rattle.queue_model.specs.State.{row_at, IsIn, size_at, reserved_by}
 use Rattle.queue_model.specs.Table.{CanGive, acted, with_more, most_bytes}
@@ -25,7 +25,6 @@ use Rattle.queue_model.proofs.Stable.{row_stays}
 use Rattle.acts_core.specs.Calls.{CallDequeue, IsFreed}
 use Rattle.acts_core.specs.Meaning.{Called}
 use Rattle.acts_core.specs.Moments.{HasSize}
-use Rattle.acts_core.specs.Steps.{Stepped}
 use Rattle.acts_core.proofs.Reserving.{reserved_small}
 use Rattle.acts_core.proofs.Stepping.{called_by, stepped_trans}
 use Rattle.entry_table.specs.declared.entries.Entries.{Entries}

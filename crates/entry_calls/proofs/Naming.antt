@@ -1,32 +1,27 @@
 -- looking for a row by its id
-use Rattle.std.proofs.Common.{◌≡◌, ◌≢◌, ℕ, suc, ◌+◌, ◌-◌, ◌<◌, ◌≤◌, Bool, true, false, Option, Some, None, List, [], ◌∷◌, ◌++◌, refl, sym, ap, ◌∙◌, subst, ⊎_elim, not, nat_eq, eq-eqb, ne_eqb, arith}
+use Rattle.std.proofs.Common.{◌≡◌, ◌≢◌, ℕ, suc, ◌-◌, ◌<◌, ◌≤◌, Bool, Option, Some, None, [], ◌∷◌, ◌++◌, refl, sym, ap, ◌∙◌, subst, ⊎_elim, not, nat_eq, eq-eqb, ne_eqb, arith}
 use Rattle.std.proofs.lemmas.Bool.{cases_eq}
-use mathlib.Core.List.{IsPrefix}
 use Rattle.queue_model.specs.declared.queues.Queue.{Queue}
 use Rattle.queue_model.specs.declared.rows.Row.{Row}
-use Rattle.queue_model.specs.declared.rows.RowState.{RowState}
-use Rattle.queue_model.specs.declared.rows.RowState.TheVariants.{Deleted}
 use Rattle.queue_model.specs.declared.rows.Slip.{Slip}
 use Rattle.queue_model.specs.declared.steps.DraftWord.TheVariants as drafts
 use Rattle.queue_model.specs.declared.steps.Step.TheVariants as steps
-use Rattle.queue_model.specs.declared.steps.Tried.{Tried}
 use Rattle.queue_model.specs.declared.steps.WordName.{WordName}
 use Rattle.queue_model.specs.declared.steps.WordName.TheVariants as names
 use Rattle.queue_model.specs.History.{after}
 use Rattle.queue_model.specs.Packing.{pack_state}
 use Rattle.queue_model.specs.State.{row_at}
-use Rattle.queue_model.proofs.Prefixes.{prefix_self, prefix_trans}
+use Rattle.queue_model.proofs.Prefixes.{prefix_self}
 use Rattle.queue_model.proofs.Stable.{row_stays}
 use Rattle.acts_core.specs.Calls.{CallFind, IsFound}
 use Rattle.acts_core.specs.Meaning.{Called}
-use Rattle.acts_core.specs.Moments.{Between}
 use Rattle.acts_core.specs.Sight.{Sight, silent_lists}
-use Rattle.acts_core.specs.Steps.{Stepped, SameRights, NoHeads}
-use Rattle.acts_core.specs.Walks.{Ask, Named, Misses, Facing, Faces, Ended, Done, Stopped}
+use Rattle.acts_core.specs.Steps.{Stepped, SameRights}
+use Rattle.acts_core.specs.Walks.{Named, Misses, Faces, Done}
 use Rattle.acts_core.proofs.Answering.{find_none, find_some}
 use Rattle.acts_core.proofs.Coming.{facing, opening_of, from_pred}
 use Rattle.acts_core.proofs.Sparing.{after_rest}
-use Rattle.acts_core.proofs.Stepping.{stepped_trans, rights_trans, no_head-append}
+use Rattle.acts_core.proofs.Stepping.{stepped_trans, rights_trans}
 use Rattle.acts_core.proofs.Walking.{walk_got, list_later, done_got}
 use Rattle.entry_table.specs.declared.pass.Pass.{Pass}
 use Rattle.entry_table.specs.Passes.{Kept, Did, opening, seen, shown, allowance, share}
@@ -35,7 +30,7 @@ use Rattle.entry_table.specs.Sights.{sight}
 use Rattle.entry_table.specs.Views.{entry}
 use Rattle.entry_table.proofs.Closing.{gone_word}
 use Rattle.entry_table.proofs.Sighting.{stepped, same_rights}
-use Rattle.entry_calls.specs.Found.{HasName, Spotted, Spots, Comes, FindsIn}
+use Rattle.entry_calls.specs.Found.{Spotted, Spots, Comes}
 
 -- the steps of one load
 one_load : (old new : Pass) (word : WordName) (n : ℕ) → Kept old new → Did old new [] → shown new ≡ shown old ++ entry (steps.Load word) n n (seen new) ∷ [] → Stepped (sight old) (sight new) [] (entry (steps.Load word) n n (seen new) ∷ [])
@@ -57,8 +52,8 @@ other_id old new id row n k a s d shows e other = record {
   rights = same_rights old new a s;
   heads = λ m. refl;
   fails = λ x found same.
-    let here : row_at (after (opening new) (seen new)) row ≡ Some x = subst (λ (o : Queue). row_at (after o (seen new)) row ≡ Some x) (sym k.opening) found in
-    absurd (other (sym (id_told (after (opening new) (seen new)) row n x shows here) ∙ same));
+      let here : row_at (after (opening new) (seen new)) row ≡ Some x = subst (λ (o : Queue). row_at (after o (seen new)) row ≡ Some x) (sym k.opening) found in
+      absurd (other (sym (id_told (after (opening new) (seen new)) row n x shows here) ∙ same));
 }
 
 -- the id of a row is what it was when loaded
@@ -86,8 +81,7 @@ module _ (old mid new : Pass) (id row n : ℕ) (y : Row) (k : Kept old mid) (a :
   row_now : (x : Row) × (row_at (after (opening new) (seen new)) row ≡ Some x) × (row_at (after (opening old) (seen new)) row ≡ Some x)
   row_now =
       let t = row_stays (after (opening mid) (seen mid)) d'.prefix.0 row y there in
-      let here : row_at (after (opening mid) (seen new)) row ≡ Some t.0 = subst (λ (q : Queue). row_at q row ≡ Some t.0) (after_rest (opening mid) (seen mid) (seen new) d'.prefix) t.1 in
-      (
+      let here : row_at (after (opening mid) (seen new)) row ≡ Some t.0 = subst (λ (q : Queue). row_at q row ≡ Some t.0) (after_rest (opening mid) (seen mid) (seen new) d'.prefix) t.1 in (
         t.0,
         subst (λ (o : Queue). row_at (after o (seen new)) row ≡ Some t.0) (sym k'.opening) here,
         subst (λ (o : Queue). row_at (after o (seen new)) row ≡ Some t.0) k.opening here,
@@ -100,8 +94,8 @@ module _ (old mid new : Pass) (id row n : ℕ) (y : Row) (k : Kept old mid) (a :
     rights = both_rights;
     heads = λ m. refl;
     fails = λ x found same.
-      let here : row_at (after (opening new) (seen new)) row ≡ Some x = subst (λ (o : Queue). row_at (after o (seen new)) row ≡ Some x) (sym k'.opening) (subst (λ (o : Queue). row_at (after o (seen new)) row ≡ Some x) (sym k.opening) found) in
-      gone_word x.state n (state_told (after (opening new) (seen new)) row n x shows' here) gone;
+        let here : row_at (after (opening new) (seen new)) row ≡ Some x = subst (λ (o : Queue). row_at (after o (seen new)) row ≡ Some x) (sym k'.opening) (subst (λ (o : Queue). row_at (after o (seen new)) row ≡ Some x) (sym k.opening) found) in
+        gone_word x.state n (state_told (after (opening new) (seen new)) row n x shows' here) gone;
   }
 
   pub spotted_row : n ≢ 3 → Spotted (sight old) (sight new) id row

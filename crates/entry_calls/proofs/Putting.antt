@@ -1,19 +1,15 @@
 -- the turns of a put together, and the whole put
-use Rattle.std.proofs.Common.{◌≡◌, ◌≢◌, ◌⊎◌, ℕ, zero, suc, ◌+◌, ◌-◌, ◌≤◌, ◌<◌, ◌==◌, Option, Some, None, List, [], ◌∷◌, ◌++◌, find, length, refl, sym, ap, ◌∙◌, subst, ⊎_elim, append-nil, eq-eqb, arith}
-use mathlib.Core.List.{IsPrefix}
-use Rattle.queue_model.specs.declared.deeds.Act.{Act}
+use Rattle.std.proofs.Common.{◌≡◌, ℕ, suc, ◌-◌, ◌≤◌, ◌<◌, None, List, [], ◌∷◌, ◌++◌, refl, sym, ap, ◌∙◌, subst, ⊎_elim, append-nil, eq-eqb, arith}
 use Rattle.queue_model.specs.declared.deeds.Deed.{Deed}
 use Rattle.queue_model.specs.declared.queues.Queue.{Queue}
-use Rattle.queue_model.specs.declared.rows.Row.{Row}
 use Rattle.queue_model.specs.declared.rows.Slip.{Slip}
 use Rattle.queue_model.specs.declared.steps.Node.{Node}
 use Rattle.queue_model.specs.declared.steps.Step.TheVariants as steps
 use Rattle.queue_model.specs.declared.steps.WordName.TheVariants as names
 use Rattle.queue_model.specs.History.{Legal}
-use Rattle.queue_model.specs.State.{row_at, list_at, place_at}
+use Rattle.queue_model.specs.State.{row_at, place_at}
 use Rattle.queue_model.proofs.KeyedLemmas.{find-here}
 use Rattle.queue_model.proofs.SoundSteps.{list_found}
-use Rattle.acts_core.specs.Asked.{Enters}
 use Rattle.acts_core.specs.Calls.{CallPut, IsAt, IsSpent}
 use Rattle.acts_core.specs.Load.{Load}
 use Rattle.acts_core.specs.Meaning.{Called}
@@ -23,18 +19,16 @@ use Rattle.link_core.specs.Stands.{StandsIn}
 use Rattle.entry_table.specs.declared.draft.Draft.{Draft}
 use Rattle.entry_table.specs.declared.entries.Entries.{Entries}
 use Rattle.entry_table.specs.declared.pass.Pass.{Pass}
-use Rattle.entry_table.specs.declared.view.Drawing.{Drawing}
 use Rattle.entry_table.specs.declared.view.Shape.{Shape}
 use Rattle.entry_table.specs.declared.view.View.{View}
 use Rattle.entry_table.specs.Helps.{Helpable}
-use Rattle.entry_table.specs.Passes.{Kept, Did, view, opening, seen, state, shown, callers, consumers, allowance, share}
+use Rattle.entry_table.specs.Passes.{Kept, Did, view, opening, seen, state, shown, callers, consumers, share}
 use Rattle.entry_table.specs.Plays.{Steps, Shows, DidDraw, IsDrawnBy}
 use Rattle.entry_table.specs.Sights.{build_of, sight}
 use Rattle.entry_table.specs.Views.{caller_of, is_drawing, drawing_at, blank_drawing}
 use Rattle.entry_table.proofs.Sighting.{stepped}
-use Rattle.entry_calls.specs.Changed.{Keeps}
-use Rattle.entry_calls.specs.Appends.{Ran, Described, Appended, Passed, enters}
-use Rattle.entry_calls.proofs.Running.{ran_then, ran_end, ran_none, stop_ran, known_stop, list_stop, place_stop, enters_on}
+use Rattle.entry_calls.specs.Appends.{Ran, Appended, Passed, enters}
+use Rattle.entry_calls.proofs.Running.{ran_then, ran_end, ran_none, stop_ran, known_stop, list_stop, place_stop}
 
 -- Turns
 

@@ -1,11 +1,10 @@
 -- what the calls on one row mean
-use Rattle.std.proofs.Common.{◌≡◌, ◌≢◌, ℕ, suc, ◌+◌, ◌-◌, List, [], ◌∷◌, ◌++◌, Option, Some, None, refl, sym, ap, ◌∙◌, subst, append_assoc, arith}
+use Rattle.std.proofs.Common.{◌≡◌, ◌≢◌, ℕ, List, [], ◌∷◌, ◌++◌, Some, refl, sym, ap, ◌∙◌, subst}
 use mathlib.Core.List.{IsPrefix}
-use mathlib.Core.List.{Mem, mem-cons_of_mem}
+use mathlib.Core.List.{mem-cons_of_mem}
 use mathlib.Core.List.{mem-append_left}
 use Rattle.queue_model.specs.declared.deeds.Act.{Act}
 use Rattle.queue_model.specs.declared.deeds.Act.TheVariants as acts
-use Rattle.queue_model.specs.declared.deeds.Deed.{Deed}
 use Rattle.queue_model.specs.declared.queues.Queue.{Queue}
 use Rattle.queue_model.specs.declared.rows.Row.{Row}
 use Rattle.queue_model.specs.declared.rows.RowState.{RowState}
@@ -18,16 +17,14 @@ use Rattle.queue_model.proofs.Histories.{after-append}
 use Rattle.queue_model.proofs.Prefixes.{prefix_trans}
 use Rattle.queue_model.proofs.Stable.{row_stays}
 use Rattle.acts_core.specs.Calls.{CallLock, CallUnlock, CallRelease, CallSteal, CallDelete, IsLocked, IsStolen, IsReleased, HasStolen, IsNotStealable, IsMoved, IsDone}
-use Rattle.acts_core.specs.Lists.{Saw, SawOther, SawMove, TakesBy}
 use Rattle.acts_core.specs.Load.{Load}
 use Rattle.acts_core.specs.Meaning.{Called}
-use Rattle.acts_core.specs.Moments.{Between, JustBefore, HandsOut, IsLoadOf, HasMask}
-use Rattle.acts_core.specs.Sight.{Showed}
+use Rattle.acts_core.specs.Moments.{IsLoadOf, HasMask}
 use Rattle.acts_core.specs.Steps.{Stepped}
 use Rattle.acts_core.proofs.Stepping.{called_by, stepped_trans}
 use Rattle.entry_table.specs.declared.entries.Entries.{Entries}
 use Rattle.entry_table.specs.declared.pass.Pass.{Pass}
-use Rattle.entry_table.specs.Passes.{Kept, Did, opening, seen, shown}
+use Rattle.entry_table.specs.Passes.{Did, opening, seen, shown}
 use Rattle.entry_table.specs.Rule.{Carries}
 use Rattle.entry_table.specs.Sights.{build_of, sight}
 use Rattle.entry_table.proofs.Sighting.{stepped}

@@ -13,7 +13,7 @@ use Rattle.queue_model.specs.declared.steps.DraftWord.{DraftWord}
 use Rattle.queue_model.specs.declared.steps.DraftWord.TheVariants as drafts
 use Rattle.queue_model.specs.declared.steps.Tried.{Tried}
 use Rattle.queue_model.specs.History.{after, Legal, own, deeds_of}
-use Rattle.queue_model.specs.State.{is_row, row_at, rows_of, list_at, place_at, reserved_by}
+use Rattle.queue_model.specs.State.{is_row, rows_of, list_at, place_at, reserved_by}
 use Rattle.queue_model.specs.Table.{CanGive, FitsQueue}
 use Rattle.queue_model.proofs.Histories.{after-append}
 use Rattle.queue_model.proofs.KeyedLemmas.{find-alter, find-past, find_passes, position-here, position-past}
@@ -33,7 +33,6 @@ use Rattle.entry_table.specs.Passes.{Kept, Did, view, opening, seen, state, show
 use Rattle.entry_table.specs.Plays.{Steps, IsKnown, list_at_node, place_at_node, stored_view, IsDrawnBy}
 use Rattle.entry_table.specs.Views.{is_drawing, drawing_at, with_word}
 use Rattle.entry_table.proofs.Joining.{steps_trans}
-use Rattle.entry_calls.specs.Changed.{Keeps}
 use Rattle.entry_calls.specs.Appends.{Ran, Described}
 use Rattle.entry_calls.proofs.Replying.{keeps_trans}
 

@@ -1,8 +1,6 @@
 -- one turn of a put, and the turns together
-use Rattle.std.proofs.Common.{◌≡◌, ◌≢◌, ◌⊎◌, ℕ, zero, suc, ◌+◌, ◌-◌, ◌^◌, ◌≤◌, ◌<◌, Option, Some, None, List, [], ◌∷◌, ◌++◌, find, length, refl, sym, ap, ◌∙◌, subst, append-nil, arith}
-use mathlib.Core.List.{IsPrefix}
+use Rattle.std.proofs.Common.{◌≡◌, ◌≢◌, ℕ, suc, ◌-◌, ◌^◌, ◌≤◌, ◌<◌, Some, None, [], ◌∷◌, ◌++◌, find, length, refl, sym, ap, ◌∙◌, subst, arith}
 use Rattle.queue_model.specs.declared.deeds.Act.{Act}
-use Rattle.queue_model.specs.declared.deeds.Act.TheVariants as acts
 use Rattle.queue_model.specs.declared.deeds.Deed.{Deed}
 use Rattle.queue_model.specs.declared.queues.Queue.{Queue}
 use Rattle.queue_model.specs.declared.rows.Row.{Row}
@@ -18,7 +16,7 @@ use Rattle.queue_model.proofs.Histories.{after-append, legal_rest}
 use Rattle.queue_model.proofs.Owns.{own_enqueued, own_enqueued_last}
 use Rattle.acts_core.specs.Asked.{Enters}
 use Rattle.acts_core.specs.Load.{Load}
-use Rattle.acts_core.specs.Walks.{node_at, reach, IsOfList, IsStop}
+use Rattle.acts_core.specs.Walks.{node_at, reach, IsStop}
 use Rattle.entry_table.specs.declared.draft.Draft.{Draft}
 use Rattle.entry_table.specs.declared.draft.Linking.{Linking}
 use Rattle.entry_table.specs.declared.draft.Linking.TheVariants.{Linked, Behind}
@@ -26,11 +24,10 @@ use Rattle.entry_table.specs.declared.pass.Pass.{Pass}
 use Rattle.entry_table.specs.declared.view.Drawing.{Drawing}
 use Rattle.entry_table.specs.declared.view.Shape.{Shape}
 use Rattle.entry_table.specs.declared.view.View.{View}
-use Rattle.entry_table.specs.Passes.{Kept, Did, view, opening, seen, state, shown, callers, consumers, allowance, share, drawn}
-use Rattle.entry_table.specs.Plays.{Steps, Shows, CanLink, LinkAnswer, DidEnter, Blocked, Linkable, stored_view, quiet, by_me, enters as enters_row}
+use Rattle.entry_table.specs.Passes.{Kept, Did, view, opening, seen, state, callers, consumers, allowance, share, drawn}
+use Rattle.entry_table.specs.Plays.{Steps, Shows, CanLink, LinkAnswer, DidEnter, Blocked, Linkable, stored_view, by_me, enters as enters_row}
 use Rattle.entry_table.specs.Views.{caller_of, drawing_at, with_word, slip_of, entry}
 use Rattle.entry_table.proofs.Following.{link_tells, place_low}
-use Rattle.entry_calls.specs.Changed.{Keeps}
 use Rattle.entry_calls.specs.Appends.{Ran, Described, Appended, Passed, Turned, enters}
 use Rattle.entry_calls.proofs.Running.{ran_then, ran_store, drawing_stored, stop_ran, stop_on, known_stop, list_stop, place_stop, reach_some, row_stop, reach_low, enters_later}
 

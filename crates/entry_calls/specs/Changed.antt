@@ -6,7 +6,7 @@ use Rattle.queue_model.specs.declared.rows.Row.{Row}
 use Rattle.queue_model.specs.declared.rows.RowState.{RowState}
 use Rattle.queue_model.specs.declared.steps.Tried.{Tried}
 use Rattle.queue_model.specs.History.{after, deed}
-use Rattle.queue_model.specs.State.{row_at, IsIn}
+use Rattle.queue_model.specs.State.{row_at}
 use Rattle.acts_core.specs.Lists.{Saw}
 use Rattle.acts_core.specs.Moments.{JustBefore}
 use Rattle.acts_core.specs.Sight.{Showed}

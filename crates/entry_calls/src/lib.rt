@@ -13,3 +13,6 @@ pub use depths::{depth, give_back, reserve};
 pub use finding::find;
 pub use locks::{lock, release, steal, unlock};
 pub use removals::{delete, dequeue};
+
+#[cfg(test)]
+mod tests;

@@ -1,10 +1,12 @@
 //! The calls of a table at a concrete cargo, on one thread.
-ghost use Rattle.std.specs.Prelude.{◌≡◌, ◌<◌, ◌≤◌, ℕ, None, []};
+ghost use Rattle.std.specs.Prelude.{◌≡◌, None};
+ghost use Rattle.entry_table.specs.Passes.{IsPassOf, opening};
 
-use crate::{Drawn, Entries};
+use crate::{Drawn, Entries, Pass};
 use acts_core::Cargo;
 use queue_model::Slip;
 use std::test::Fail;
+use std::thread::join;
 
 /// A message with no bytes.
 #[derive(Debug, Drop)]
@@ -105,6 +107,40 @@ fn passes_part_and_join(rt: HostRuntime) -> Result<(), Fail> {
         drawn(entries.draw_row(&mut boss, Empty { id: 3 })),
         Some(1)
     );
+    Ok(())
+}
+
+/// Draws rows until none is left for the pass, and adds their numbers up.
+fn draw_all(entries: &Entries<Empty>, pass: Pass) -> (Pass, u64)
+    requires table { IsPassOf entries.now pass }
+    ensures table { IsPassOf entries.now result.0 }
+    ensures opening { opening result.0 ≡ opening pass }
+{
+    let mut pass = pass;
+    let mut sum = 0u64;
+    'rows: while let Drawn::Row(draft) = entries.draw_row(&mut pass, Empty { id: 0 }) {
+        sum = sum.wrapping_add(draft.row());
+    }
+    (pass, sum)
+}
+
+#[test]
+fn two_threads_draw_each_row_once(rt: HostRuntime) -> Result<(), Fail> {
+    let alloc = rt.alloc();
+    let (table, mut boss) = Entries::make(alloc, 1, 1000, 0, Vec::new(alloc))?;
+    let one = table.split(&mut boss, &[], 500);
+    let two = table.split(&mut boss, &[], 500);
+    let entries = &table;
+    let (a, b) = join(
+        &rt,
+        || -> (Pass, u64)
+            requires { IsPassOf entries.now one }
+        { draw_all(entries, one) },
+        || -> (Pass, u64)
+            requires { IsPassOf entries.now two }
+        { draw_all(entries, two) },
+    );
+    assert_eq!(rt; a.1.wrapping_add(b.1), 999 * 500);
     Ok(())
 }
 

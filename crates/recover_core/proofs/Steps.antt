@@ -1,10 +1,10 @@
 -- Reading the batches of a journal from gate to gate.
-use Rattle.std.proofs.Common.{◌≡◌, ◌≢◌, ℕ, zero, suc, ◌+◌, ◌<◌, ◌≤◌, List, [], ◌∷◌, ◌++◌, length, drop, get_or, refl, sym, ap, subst, ◌∙◌, append_assoc, length-append, arith}
-use Rattle.std.specs.List.{flat_map, All}
+use Rattle.std.proofs.Common.{◌≡◌, ◌≢◌, ℕ, ◌+◌, ◌<◌, ◌≤◌, List, [], ◌∷◌, ◌++◌, length, drop, get_or, refl, sym, ap, subst, ◌∙◌, append_assoc, length-append, arith}
+use Rattle.std.specs.List.{flat_map}
 use Rattle.std.proofs.lemmas.List.{append-nil, length-drop, drop-drop, drop_at, get_or-drop}
 use Rattle.std.proofs.Math.Seq.{get_or-append_seam}
 use Rattle.journal_format.specs.declared.batches.Batch.{Batch}
-use Rattle.journal_format.specs.Spelling.{Txn, txn_bytes, txns_bytes, batch_bytes, IsBatch}
+use Rattle.journal_format.specs.Spelling.{Txn, txn_bytes, batch_bytes, IsBatch}
 use Rattle.journal_format.specs.Journal.{header, open_bytes, all_txns, IsJournal}
 use Rattle.journal_format.specs.Batches.{IsBatchAt}
 use Rattle.journal_format.proofs.Fronts.{flat_push, txns_push}

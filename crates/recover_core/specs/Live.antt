@@ -1,5 +1,5 @@
 -- Which entries are live.
-use Rattle.std.specs.Prelude.{ℕ, Bool, true, false, List, [], ◌∷◌, ◌++◌, ◌==◌, ◌&&◌, ◌||◌, if◌then◌else◌}
+use Rattle.std.specs.Prelude.{ℕ, Bool, false, List, [], ◌∷◌, ◌++◌, ◌==◌, ◌&&◌, ◌||◌, if◌then◌else◌}
 use Rattle.std.specs.Str.{bytes_eq}
 use Rattle.journal_format.specs.declared.items.Item.{Item}
 use Rattle.journal_format.specs.declared.items.Item.TheVariants.{Entered, Gone}

@@ -1,5 +1,5 @@
 -- Where the items of a journal stand, and which entries are live, with their places.
-use Rattle.std.specs.Prelude.{ℕ, ◌+◌, ◌-◌, Bool, true, false, List, [], ◌∷◌, ◌++◌, length, ◌==◌, ◌&&◌, ◌||◌, if◌then◌else◌}
+use Rattle.std.specs.Prelude.{ℕ, ◌+◌, ◌-◌, Bool, false, List, [], ◌∷◌, ◌++◌, length, ◌==◌, ◌&&◌, ◌||◌, if◌then◌else◌}
 use Rattle.std.specs.Str.{bytes_eq}
 use Rattle.journal_format.specs.declared.items.Item.{Item}
 use Rattle.journal_format.specs.declared.items.Item.TheVariants.{Entered, Gone}

@@ -12,3 +12,5 @@ mod recovery;
 pub use kept::{Kept, Recovered};
 pub use recovery::recover;
 
+#[cfg(test)]
+mod tests;

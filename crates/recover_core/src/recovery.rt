@@ -1,5 +1,5 @@
 //! Opens a journal with what it still holds.
-ghost use Rattle.std.specs.Prelude.{◌≡◌, ◌+◌, ◌≤◌, List, [], IfOk, IfErr};
+ghost use Rattle.std.specs.Prelude.{◌≡◌, ◌+◌, ◌≤◌, IfOk, IfErr};
 ghost use Rattle.disk_core.specs.Trails.{Extends};
 ghost use Rattle.disk_core.specs.Images.{Over, Still, NoMore};
 ghost use Rattle.journal_core.specs.Opening.{left_by, OpenFits};

@@ -1,3 +1,4 @@
 pub mod Keys
 pub mod Crowns
 mod Leftmosts
+mod Drains

@@ -60,3 +60,9 @@ pub record FirstBelow (ks : ℕ → Option (List ℕ)) (width : ℕ) (nodes : Li
 pub record Leftmost (width : ℕ) (nodes : List ℕ) (w : ℕ) : Type 0 where
   pub found : (x : ℕ) → w ≡ suc x → IsFreeLeaf width nodes x
   pub first : (y : ℕ) → IsFreeLeaf width nodes y → (x : ℕ) × (w ≡ suc x) × (x ≤ y)
+
+-- all available rows, in order
+pub record Drained (ks : ℕ → Option (List ℕ)) (width : ℕ) (nodes order : List ℕ) : Type 0 where
+  pub each : (i : ℕ) → i < length order → IsFreeLeaf width nodes (slice_index order i)
+  pub whole : (r : ℕ) → IsFreeLeaf width nodes r → (i : ℕ) × (i < length order) × (slice_index order i ≡ r)
+  pub sorted : (i j : ℕ) → i < j → j < length order → before ks (slice_index order i) (slice_index order j)

@@ -1,4 +1,5 @@
-//! The available rows of a one-thread queue in queue order: a tree of winners over their keys, in a list that takes
+//! The available rows of a one-thread queue in queue order: a tree of winners over their keys, in a
+//! list that takes
 //! no memory as rows come and go.
 #![tactic(auto)]
 
@@ -6,6 +7,6 @@ mod order;
 mod slots;
 mod tree;
 
-pub use order::{ArrivalOrder, KeyOrder, Ranking};
+pub use order::{ArrivalOrder, KeyOrder, Ranking, is_before};
 pub use slots::Slot;
-pub use tree::{crown, first_wanted, leftmost, set_leaf};
+pub use tree::{crown, drain, first_wanted, leftmost, set_leaf, widen, winner};

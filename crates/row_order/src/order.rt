@@ -52,8 +52,8 @@ fn compare_keys(a: &Option<Bytes>, b: &Option<Bytes>) -> Ordering
     }
 }
 
-// Whether row a comes before row b in queue order.
-pub(crate) fn is_before<C, O: Ranking>(slots: &[Slot<C>], a: u64, b: u64) -> bool
+/// Whether row a comes before row b in queue order.
+pub fn is_before<C, O: Ranking>(slots: &[Slot<C>], a: u64, b: u64) -> bool
     requires { (a < length slots.now) × (b < length slots.now) }
     ensures { IsTrue result ↔ before (ranks O.by_key slots.now) a b }
 {

@@ -1,15 +1,17 @@
-//! The tree of winners. Of a tree of `width` leaves node 1 is the root, the nodes below i are 2 i and 2 i + 1, and the
-//! leaf of row r is node `width + r`. A node is 0, or one more than a row: a leaf its own row where that is available, an
+//! The tree of winners. Of a tree of `width` leaves node 1 is the root, the nodes below i are 2 i
+//! and 2 i + 1, and the
+//! leaf of row r is node `width + r`. A node is 0, or one more than a row: a leaf its own row where
+//! that is available, an
 //! inner node the row of the two nodes below that comes first.
-ghost use Rattle.std.specs.Prelude.{◌≡◌, ◌≢◌, ◌↔◌, IsTrue, ℕ, ◌+◌, ◌*◌, ◌^◌, ◌<◌, ◌≤◌, ◌⊎◌, suc, length, slice_index, Option, List};
+ghost use Rattle.std.specs.Prelude.{◌≡◌, ◌≢◌, ◌↔◌, IsTrue, ℕ, ◌+◌, ◌*◌, ◌^◌, ◌<◌, ◌≤◌, ◌⊎◌, suc, length, slice_index, Option, List, vec_len, vec_capacity};
 ghost use Rattle.row_order.specs.Order.{ranks, IsWanted};
-ghost use Rattle.row_order.specs.Tree.{IsWinner, Crowned, Leafed, SameLeaves, LeafSet, FirstBelow, Leftmost, OffPath};
+ghost use Rattle.row_order.specs.Tree.{IsWinner, Crowned, Leafed, SameLeaves, LeafSet, FirstBelow, Leftmost, OffPath, Drained};
 
 use crate::order::{Ranking, is_before};
 use crate::slots::Slot;
 
-// The one of two nodes whose row comes first.
-fn winner<C, O: Ranking>(slots: &[Slot<C>], a: u64, b: u64) -> u64
+/// The one of two nodes whose row comes first.
+pub fn winner<C, O: Ranking>(slots: &[Slot<C>], a: u64, b: u64) -> u64
     requires { (a ≤ length slots.now) × (b ≤ length slots.now) }
     ensures { IsWinner (ranks O.by_key slots.now) a b result }
 {
@@ -96,7 +98,8 @@ pub fn first_wanted<C, O: Ranking>(
     requires tree { Crowned (ranks O.by_key slots.now) width (length slots.now) nodes.now }
     requires node { (0 < node) × (node < 2 * width) }
     requires consumer { consumer < 64 }
-    ensures { FirstBelow (ranks O.by_key slots.now) width nodes.now node (IsWanted slots.now consumer) result }
+    ensures { FirstBelow (ranks O.by_key slots.now) width nodes.now node
+        (IsWanted slots.now consumer) result }
 {
     let best = nodes[node];
     if best == 0 {
@@ -132,4 +135,46 @@ pub fn leftmost(nodes: &[u64], width: usize) -> u64
         }
     }
     nodes[node]
+}
+
+/// Moves the leaves of a tree to where they stand in a wider one, which has no leaves yet, and puts
+/// all inner nodes
+/// right.
+pub fn widen<C, O: Ranking>(slots: &[Slot<C>], nodes: &mut [u64], old: usize, width: usize)
+    requires width { (0 < old) × (2 * old ≤ width) }
+    requires long { length nodes.old ≡ 2 * width }
+    requires inside { (i : ℕ) → i < 2 * width → slice_index nodes.old i ≤ length slots.now }
+    requires leaves { (r : ℕ) → r < old →
+        (slice_index nodes.old (old + r) ≡ 0) ⊎ (slice_index nodes.old (old + r) ≡ suc r) }
+    requires empty { (i : ℕ) → width ≤ i → slice_index nodes.old i ≡ 0 }
+    ensures tree { Crowned (ranks O.by_key slots.now) width (length slots.now) nodes.new }
+    ensures moved { (r : ℕ) → r < old →
+        slice_index nodes.new (width + r) ≡ slice_index nodes.old (old + r) }
+    ensures empty { (r : ℕ) → old ≤ r → slice_index nodes.new (width + r) ≡ 0 }
+{
+    let mut row = 0;
+    'moving: while row < old {
+        nodes[width + row] = nodes[old + row];
+        row += 1;
+    }
+    crown::<C, O>(slots, nodes, width);
+}
+
+/// Takes all available rows out of a tree, and lists them in order.
+pub fn drain<C, O: Ranking>(
+    slots: &[Slot<C>],
+    nodes: &mut [u64],
+    width: usize,
+    order: &mut Vec<u64>,
+)
+    requires tree { Crowned (ranks O.by_key slots.now) width (length slots.now) nodes.old }
+    requires width { 0 < width }
+    requires room { (vec_len order.old ≡ 0) × (length slots.now ≤ vec_capacity order.old) }
+    ensures drained { Drained (ranks O.by_key slots.now) width nodes.old order.new.items }
+{
+    'draining: while nodes[1] > 0 {
+        let row = nodes[1] - 1;
+        order.push_reserved(row);
+        set_leaf::<C, O>(slots, nodes, width, row, 0);
+    }
 }

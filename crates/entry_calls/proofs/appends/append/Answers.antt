@@ -1,7 +1,5 @@
-use Rattle.std.proofs.Common.{rules, refl, sym, ap, ◌∙◌, ◌≡◌, ◌≤◌, ℕ, subst, []}
+use Rattle.std.proofs.Common.{sym, ap, ℕ, subst, []}
 use Rattle.acts_core.specs.Asked.{Enters}
-use Rattle.acts_core.specs.Walks.{IsOfList, reach}
-use Rattle.queue_model.specs.State.{place_at}
 use Rattle.entry_table.specs.Helps.{Helpable}
 use Rattle.entry_table.specs.Passes.{state}
 use Rattle.entry_calls.proofs.Running.{enters_later, ran_then, ran_one, stop_ran}

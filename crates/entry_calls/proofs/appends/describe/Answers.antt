@@ -1,4 +1,4 @@
-use Rattle.std.proofs.Common.{rules, refl, sym, ap, ◌∙◌, ◌≡◌, ℕ, []}
+use Rattle.std.proofs.Common.{rules, refl, ◌∙◌, []}
 use Rattle.queue_model.specs.declared.steps.DraftWord.TheVariants as drafts
 use Rattle.entry_calls.proofs.Running.{ran_then, ran_store, drawn_on, describes}
 use Rattle.entry_calls.proofs.appends.describe.Goals as goal

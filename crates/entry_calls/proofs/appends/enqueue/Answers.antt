@@ -1,4 +1,4 @@
-use Rattle.std.proofs.Common.{rules, refl, sym, ap, ◌∙◌, ◌≡◌, ℕ, subst}
+use Rattle.std.proofs.Common.{sym, subst}
 use Rattle.acts_core.specs.Asked.{Enters}
 use Rattle.entry_table.specs.Passes.{state}
 use Rattle.entry_calls.proofs.Running.{enters_on}

@@ -1,4 +1,4 @@
-use Rattle.std.proofs.Common.{rules, refl, arith, ◌≡◌, ◌≢◌, ◌<◌, ◌+◌, ◌-◌, ℕ, suc, sym, ap, ◌∙◌}
+use Rattle.std.proofs.Common.{arith, ◌-◌, ap, ◌∙◌}
 use Rattle.entry_table.specs.declared.view.Shape.{Shape}
 use Rattle.entry_table.specs.Passes.{view, state}
 use Rattle.entry_table.proofs.Following.{place_low}

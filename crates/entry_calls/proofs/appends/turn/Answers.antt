@@ -1,4 +1,3 @@
-use Rattle.std.proofs.Common.{rules}
 use Rattle.entry_calls.proofs.Turning.{can_link, turned}
 use Rattle.entry_calls.proofs.appends.turn.Goals as goal
 

@@ -1,4 +1,4 @@
-use Rattle.std.proofs.Common.{◌≡◌, ◌≤◌, sym, ◌∙◌, arith}
+use Rattle.std.proofs.Common.{◌≡◌, sym, ◌∙◌, arith}
 use Rattle.acts_core.specs.Walks.{Named}
 use Rattle.acts_core.proofs.Coming.{none_done, less_left}
 use Rattle.entry_table.specs.Passes.{opening}

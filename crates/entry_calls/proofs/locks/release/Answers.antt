@@ -1,4 +1,3 @@
-use Rattle.std.proofs.Common.{rules}
 use Rattle.queue_model.specs.declared.steps.Change.TheVariants.{Rel}
 use Rattle.entry_calls.specs.Changed.{Keeps}
 use Rattle.entry_calls.proofs.Changes.{brought_row}

@@ -1,4 +1,4 @@
-use Rattle.std.proofs.Common.{rules, refl, ap, sym, ◌∙◌, ◌≡◌, ◌<◌, ◌+◌, ◌*◌, ◌^◌, ℕ, arith, subst}
+use Rattle.std.proofs.Common.{rules, ap, sym, ◌∙◌, ◌≡◌, ◌<◌, ◌+◌, ◌*◌, ◌^◌, arith, subst}
 use Rattle.queue_model.specs.declared.rows.RowState.{RowState}
 use Rattle.queue_model.specs.declared.rows.RowState.TheVariants.{Unlocked}
 use Rattle.queue_model.specs.declared.steps.Change.TheVariants.{Steal}

@@ -1,4 +1,3 @@
-use Rattle.std.proofs.Common.{rules}
 use Rattle.queue_model.specs.declared.deeds.Act.TheVariants as acts
 use Rattle.entry_table.specs.Passes.{opening, seen}
 use Rattle.entry_table.proofs.Outs.{acted_row}

@@ -1,5 +1,3 @@
-use Rattle.std.proofs.Common.{rules}
-use Rattle.entry_calls.specs.Changed.{Keeps}
 use Rattle.entry_calls.proofs.Dequeuing.{held_later, can_give, dequeues}
 use Rattle.entry_calls.proofs.removals.dequeue.Goals as goal
 

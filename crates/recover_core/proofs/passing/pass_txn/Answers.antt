@@ -1,4 +1,4 @@
-use Rattle.std.proofs.Common.{◌-◌, sym, ◌∙◌}
+use Rattle.std.proofs.Common.{◌-◌}
 use Rattle.recover_core.proofs.Passes.{items_step}
 use Rattle.recover_core.proofs.passing.pass_txn.Goals as goal
 

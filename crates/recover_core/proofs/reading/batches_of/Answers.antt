@@ -1,4 +1,4 @@
-use Rattle.std.proofs.Common.{◌≡◌, ◌-◌, ◌+◌, ◌++◌, ◌∷◌, [], ℕ, List, length, ap, subst, sym, ◌∙◌, arith}
+use Rattle.std.proofs.Common.{◌≡◌, ◌-◌, ◌+◌, ◌++◌, ◌∷◌, [], ℕ, List, length, ap, subst, sym, arith}
 use Rattle.journal_format.specs.declared.batches.Batch.{Batch}
 use Rattle.recover_core.proofs.Steps.{AtGate, at_first, gate_within, behind, all_read}
 use Rattle.recover_core.proofs.reading.batches_of.Goals as goal
