@@ -68,6 +68,34 @@ fn bytes_of(alloc: Global, content: &[u8]) -> Result<Result<Bytes, OpenFault>, F
     }
 }
 
+// The same bytes, but for the gate at the end: a crash may have left any byte there that isn't 1.
+fn is_like(found: &[u8], want: &[u8]) -> bool {
+    match (found.split_last(), want.split_last()) {
+        (Some((_, found)), Some((_, want))) => found == want,
+        _ => false,
+    }
+}
+
+// Each image of each moment since that one, by the picks 0 to 7, is a journal with these bytes, or with those.
+fn check_images(
+    rt: &impl Abort,
+    alloc: Global,
+    disk: &MemoryDisk,
+    since: u64,
+    either: [&[u8]; 2],
+) -> Result<(), Fail> {
+    for moment in since..disk.moments() {
+        for pick in 0..8u64 {
+            let image = disk.image(alloc, moment, pick)?;
+            let found = bytes_of(alloc, image.as_slice())??;
+            let is_either = is_like(found.as_slice(), either[0])
+                || is_like(found.as_slice(), either[1]);
+            assert!(rt; is_either, "at moment {moment}, by pick {pick}");
+        }
+    }
+    Ok(())
+}
+
 #[test]
 fn ample(rt: HostRuntime) -> Result<(), Fail> {
     let alloc = rt.alloc();
@@ -87,6 +115,58 @@ fn ample(rt: HostRuntime) -> Result<(), Fail> {
         Err((fault, _)) => return Err(fault.into()),
     }
     Ok(())
+}
+
+#[test]
+fn each_image_has_the_batch_or_none_of_it(rt: HostRuntime) -> Result<(), Fail> {
+    let alloc = rt.alloc();
+    // Nothing fails; then each call of the append does: the body, its sync, the gate, its sync.
+    let failing: [&[u64]; 5] = [&[], &[3], &[4], &[5], &[6]];
+    for calls in failing {
+        let mut journal = created(alloc, calls)?;
+        let answer = append_seven(&rt, alloc, &mut journal)?;
+        assert_eq!(rt;
+            answer,
+            if calls.is_empty() {
+                Ok(29)
+            } else {
+                Err(DeviceFault)
+            }
+        );
+        assert_eq!(rt; journal.is_clean(), calls.is_empty());
+        let disk = journal.into_disk();
+        check_images(&rt, alloc, &disk, 2, [EMPTY, ONE])?;
+        if calls.is_empty() {
+            check_images(&rt, alloc, &disk, disk.moments() - 1, [ONE, ONE])?;
+        }
+    }
+    Ok(())
+}
+
+#[test]
+fn a_repair_takes_the_failed_batch_away(rt: HostRuntime) -> Result<(), Fail> {
+    let alloc = rt.alloc();
+    // A call of the append fails. In all there are three calls of `create`, those of the append up to that one, those
+    // of the repair, one or two, and four of an append more.
+    let failing: [(&[u64], u64); 4] = [(&[3], 9), (&[4], 10), (&[5], 12), (&[6], 13)];
+    for (calls, want) in failing {
+        let mut journal = created(alloc, calls)?;
+        assert_eq!(rt; append_seven(&rt, alloc, &mut journal)?, Err(DeviceFault));
+        assert_eq!(rt; journal.repair(), Ok(()));
+        assert!(rt; journal.is_clean());
+        assert_eq!(rt; append_seven(&rt, alloc, &mut journal)?, Ok(29));
+        let disk = journal.into_disk();
+        assert_eq!(rt; disk.calls(), want);
+        check_images(&rt, alloc, &disk, 2, [EMPTY, ONE])?;
+    }
+    // A repair that fails leaves the journal unclean.
+    let mut journal = created(alloc, &[5, 6, 8])?;
+    assert_eq!(rt; append_seven(&rt, alloc, &mut journal)?, Err(DeviceFault));
+    assert_eq!(rt; journal.repair(), Err(DeviceFault));
+    assert!(rt; !journal.is_clean());
+    assert_eq!(rt; journal.repair(), Err(DeviceFault));
+    assert_eq!(rt; journal.repair(), Ok(()));
+    check_images(&rt, alloc, &journal.into_disk(), 2, [EMPTY, ONE])
 }
 
 #[test]
