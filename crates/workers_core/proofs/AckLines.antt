@@ -1,18 +1,17 @@
 -- lines that take an entry out of the hands
-use Rattle.std.proofs.Common.{◌≡◌, ◌≢◌, ℕ, Bool, true, false, nat_eq, Option, Some, None, List, [], ◌∷◌, ◌++◌, refl, sym, ap, ◌∙◌, subst, eq-eqb, ne_eqb}
+use Rattle.std.proofs.Common.{◌≡◌, ℕ, false, nat_eq, Option, Some, None, List, [], ◌∷◌, ◌++◌, refl, sym, ap, ◌∙◌, subst, eq-eqb, ne_eqb}
 use Rattle.queue_model.specs.declared.rows.RowState.{RowState}
-use Rattle.acts_core.specs.Calls.{Call, CallLock, CallRelease, CallDequeue, CallDelete, Answer, IsLocked, IsStolen, IsReleased, IsOutdated, IsFreed, IsDone}
+use Rattle.acts_core.specs.Calls.{Call, CallLock, CallRelease, CallDequeue, CallDelete, Answer, IsStolen, IsReleased, IsOutdated, IsFreed, IsDone}
 use Rattle.acts_core.specs.Load.{Load}
 use Rattle.acts_core.specs.Meaning.{Besides, Called}
 use Rattle.acts_core.specs.Sight.{Build, Kind, Listed, Showed, Sight, plan_of}
-use Rattle.defs_read.specs.Defined.{Defined}
 use Rattle.script_read.specs.declared.lines.What.TheVariants.{Ack, Release}
-use Rattle.report_core.specs.declared.answers.Answer.TheVariants.{Acked, Released, Stolen, NotHeld}
-use Rattle.line_core.specs.Fits.{Did, On, Standing, lock_first, cargo_of, drop}
+use Rattle.report_core.specs.declared.answers.Answer.TheVariants.{Acked, Released, Stolen}
+use Rattle.line_core.specs.Fits.{Did, On, lock_first, cargo_of, drop}
 use Rattle.line_core.specs.Hands.{Hand, hand, meant, lost}
 use Rattle.workers_core.specs.Hold.{Keeps}
 use Rattle.workers_core.specs.Lines.{DidHands, LocksIt, LosesIt}
-use Rattle.line_core.specs.Runs.{RanOn, calls_on}
+use Rattle.line_core.specs.Runs.{calls_on}
 use Rattle.workers_core.proofs.Calls.{keeps_call, keeps_then}
 use Rattle.line_core.proofs.LineLists.{calls_append}
 use Rattle.line_core.proofs.Running.{ran_append, ran_call}

@@ -1,5 +1,5 @@
 -- the held list before and after a line
-use Rattle.std.proofs.Common.{◌≡◌, ◌≢◌, ◌<◌, ◌≤◌, ℕ, zero, suc, ◌+◌, ◌==◌, ◌&&◌, not, Bool, true, false, cond, Option, Some, None, List, [], ◌∷◌, ◌++◌, length, take, drop, filter, find, map, slice_get, slice_set, refl, sym, ap, ◌∙◌, subst, ⊎_elim, eq-eqb, arith}
+use Rattle.std.proofs.Common.{◌≡◌, ◌≢◌, ◌<◌, ℕ, zero, suc, ◌==◌, ◌&&◌, not, Bool, true, false, cond, Option, Some, None, List, [], ◌∷◌, ◌++◌, length, take, drop, filter, find, map, slice_get, slice_set, refl, sym, ap, ◌∙◌, subst, ⊎_elim, eq-eqb, arith}
 use Rattle.std.specs.Prelude.{get_or, is_some}
 use Rattle.std.specs.List.{AllByRecursion, remove}
 use Rattle.std.specs.Option.{option_map}
@@ -21,7 +21,7 @@ use Rattle.workers_core.specs.Held.{hand_of, hands_of, IsMeant, TakesMeant}
 use Rattle.workers_core.specs.Hold.{Mine, MineOn, Hold, Keeps, KeepsOthers}
 use Rattle.workers_core.specs.declared.held.Kept.{Kept}
 use Rattle.acts_core.proofs.Passes.{pass_rows}
-use Rattle.workers_core.proofs.Lists.{find_none_get, hand_got, remove_lost, replaced_none, same_key, same_self, same_sym, without_none}
+use Rattle.workers_core.proofs.Lists.{find_none_get, hand_got, remove_lost, replaced_none, same_key, same_sym, without_none}
 
 pub all_get : {X : Type 0} (P : X → Type 0) (xs : List X) (i : ℕ) (x : X) → AllByRecursion P xs → slice_get xs i ≡ Some x → P x
 all_get P [] i x each at = absurd (cc)

@@ -1,26 +1,22 @@
 -- entries that are left after the last line
-use Rattle.std.proofs.Common.{reverse, ◌≡◌, ◌≢◌, ◌<◌, ℕ, suc, false, true, not, nat_eq, Option, Some, None, List, [], ◌∷◌, ◌++◌, length, map, slice_get, slice_set, refl, sym, ap, ◌∙◌, subst, eq-eqb, ne_eqb, append_assoc, arith}
-use Rattle.std.specs.List.{AllByRecursion}
+use Rattle.std.proofs.Common.{reverse, ◌≡◌, ℕ, not, Some, List, [], ◌∷◌, ◌++◌, slice_get, slice_set, refl, sym, ap, ◌∙◌, subst, eq-eqb, ne_eqb}
 use Rattle.std.proofs.lemmas.List.{map-append, reverse-append}
 use Rattle.std.proofs.lemmas.Option.{slice_get_within}
-use Rattle.acts_core.specs.Calls.{Call, Answer, CallUnlock, IsDone}
+use Rattle.acts_core.specs.Calls.{CallUnlock, IsDone}
 use Rattle.acts_core.specs.Load.{Load}
 use Rattle.acts_core.specs.Meaning.{Called}
 use Rattle.acts_core.specs.Sight.{Build, Sight}
-use Rattle.line_core.specs.Fits.{Did, On, unlock_of, unlocks}
-use Rattle.line_core.specs.Hands.{Hand, hand, is_this, lost, same_hand}
+use Rattle.line_core.specs.Fits.{On}
+use Rattle.line_core.specs.Hands.{Hand, is_this, lost}
 use Rattle.workers_core.specs.Held.{hand_of, hands_of}
-use Rattle.workers_core.specs.Hold.{Hold, Keeps, MineOn}
 use Rattle.workers_core.specs.Ready.{Holds}
 use Rattle.line_core.specs.Runs.{Ran, RanOn, calls_on}
 use Rattle.workers_core.specs.declared.held.Kept.{Kept}
 use Rattle.workers_core.proofs.Calls.{keeps_call}
 use Rattle.workers_core.proofs.Holds.{hold_lost, others_lost}
-use Rattle.line_core.proofs.LineLists.{calls_append}
 use Rattle.workers_core.proofs.Lists.{filter_past, same_self, without_none}
 use Rattle.workers_core.proofs.Ones.{did_one, hold_here, holds_after}
-use Rattle.line_core.proofs.Running.{ran_append, ran_call, ran_none}
-use Rattle.workers_core.proofs.Steps.{runs_append}
+use Rattle.line_core.proofs.Running.{ran_call, ran_none}
 
 -- the rest, without the first
 rest_of : (k : Hand) (ks : List Hand) (sights : List Sight) → Holds sights (k ∷ ks) → lost k (k ∷ ks) ≡ ks

@@ -1,13 +1,13 @@
 -- hands in their list
-use Rattle.std.proofs.Common.{◌≡◌, ◌<◌, ◌≤◌, ℕ, zero, suc, ◌+◌, ◌-◌, ◌==◌, ◌&&◌, not, Bool, true, false, cond, Option, Some, None, List, [], ◌∷◌, ◌++◌, length, take, drop, filter, find, map, slice_get, refl, sym, ap, ◌∙◌, subst, ⊎_elim, eq-eqb, eqb-true, arith}
-use Rattle.std.specs.List.{AllByRecursion, remove}
+use Rattle.std.proofs.Common.{◌≡◌, ◌<◌, ℕ, zero, suc, ◌-◌, ◌==◌, ◌&&◌, not, Bool, true, false, cond, Some, None, List, [], ◌∷◌, length, take, drop, filter, find, slice_get, refl, sym, ap, ◌∙◌, subst, ⊎_elim, eq-eqb, eqb-true, arith}
+use Rattle.std.specs.List.{remove}
 use Rattle.std.specs.Prelude.{get_or}
 use Rattle.std.specs.Option.{option_map}
 use Rattle.std.proofs.lemmas.Option.{slice_get-map, slice_get_read}
 use Rattle.std.proofs.lemmas.Bool.{cases_Bool}
 use Rattle.queue_model.specs.Keyed.{Apart}
-use Rattle.queue_model.proofs.KeyedLemmas.{find-here, find-past, find_passes, find_none-head, find_none-tail}
-use Rattle.line_core.specs.Hands.{Hand, is_of, is_this, last_of, without, replaced, same_hand}
+use Rattle.queue_model.proofs.KeyedLemmas.{find-here, find-past, find_none-head, find_none-tail}
+use Rattle.line_core.specs.Hands.{Hand, is_this, last_of, without, replaced, same_hand}
 use Rattle.workers_core.specs.Held.{hand_of, hands_of}
 use Rattle.workers_core.specs.declared.held.Kept.{Kept}
 

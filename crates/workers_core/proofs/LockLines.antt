@@ -1,15 +1,14 @@
 -- lines that lock or unlock an entry in its place
-use Rattle.std.proofs.Common.{◌≡◌, ◌≢◌, ℕ, zero, suc, false, nat_eq, Option, Some, None, List, [], ◌∷◌, slice_get, slice_set, refl, sym, ap, ◌∙◌, subst, eq-eqb, ne_eqb}
+use Rattle.std.proofs.Common.{◌≡◌, ℕ, zero, suc, false, nat_eq, Option, Some, None, List, [], ◌∷◌, slice_get, slice_set, refl, sym, ap, ◌∙◌, subst, eq-eqb, ne_eqb}
 use Rattle.queue_model.specs.declared.rows.RowState.{RowState}
 use Rattle.queue_model.specs.Keyed.{Apart}
 use Rattle.acts_core.specs.Calls.{CallLock, CallUnlock, IsDone, IsLocked, IsStolen}
 use Rattle.acts_core.specs.Load.{Load}
 use Rattle.acts_core.specs.Meaning.{Called}
 use Rattle.acts_core.specs.Sight.{Build, Sight}
-use Rattle.defs_read.specs.Defined.{Defined}
 use Rattle.script_read.specs.declared.lines.What.TheVariants.{Lock, Unlock}
 use Rattle.report_core.specs.declared.answers.Answer.TheVariants.{Locked, Unlocked, Stolen, NotHeld}
-use Rattle.line_core.specs.Fits.{Did, NoneLocked, NoneUnlocked, On, Standing}
+use Rattle.line_core.specs.Fits.{NoneLocked, NoneUnlocked, On}
 use Rattle.line_core.specs.Hands.{Hand, hand, lost, meant, replaced, same_hand}
 use Rattle.workers_core.specs.Hold.{Hold}
 use Rattle.workers_core.specs.Lines.{DidHands}

@@ -1,6 +1,5 @@
 -- a line by the pass that it is on
-use Rattle.std.proofs.Common.{◌≡◌, ◌≢◌, ◌<◌, ◌≤◌, ◌+◌, ℕ, zero, suc, Bool, true, false, cond, Option, Some, None, List, [], ◌∷◌, length, map, slice_get, slice_set, refl, sym, ap, ◌∙◌, subst, ⊎_elim, eq-eqb, arith}
-use Rattle.std.specs.List.{count_by}
+use Rattle.std.proofs.Common.{◌≡◌, ◌≢◌, ◌<◌, ◌≤◌, ◌+◌, ℕ, zero, suc, Bool, true, false, cond, Some, None, List, [], ◌∷◌, length, map, slice_get, slice_set, refl, sym, ap, ◌∙◌, subst, ⊎_elim, eq-eqb, arith}
 use Rattle.std.proofs.lemmas.Bool.{cases_eq}
 use Rattle.std.proofs.lemmas.Option.{slice_get_within, slice_get-get_or}
 use Rattle.std.specs.Prelude.{get_or}
@@ -19,7 +18,7 @@ use Rattle.line_core.specs.Runs.{DidLines, DidOn, calls_on}
 use Rattle.workers_core.specs.declared.jobs.Aid.{Aid}
 use Rattle.workers_core.specs.declared.jobs.Aid.TheVariants as aid
 use Rattle.workers_core.specs.declared.jobs.Job.{Job}
-use Rattle.workers_core.proofs.Frugal.{all_puts, all_reserves, allowance_least, frugal, is_put, put_spends, share_least}
+use Rattle.workers_core.proofs.Frugal.{allowance_least, frugal, is_put, put_spends, share_least}
 use Rattle.workers_core.proofs.Leaves.{ran_nothing}
 use Rattle.workers_core.proofs.Ones.{set_here, set_length, set_other}
 

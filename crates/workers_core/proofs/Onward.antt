@@ -1,7 +1,7 @@
 -- what one line leaves for those after it
-use Rattle.std.proofs.Common.{◌≡◌, ◌≢◌, ◌<◌, ◌≤◌, ◌+◌, ◌-◌, ℕ, zero, suc, min, Bool, true, false, cond, nat_eq, Option, Some, None, List, [], ◌∷◌, ◌++◌, length, map, slice_get, slice_set, reverse, refl, sym, ap, ◌∙◌, subst, ⊎_elim, eq-eqb, arith, append_assoc}
-use Rattle.std.specs.Prelude.{get_or, nat_le}
-use Rattle.std.specs.List.{AllByRecursion, count_by, sum_by}
+use Rattle.std.proofs.Common.{◌≡◌, ◌≢◌, ◌<◌, ◌≤◌, ◌+◌, ◌-◌, ℕ, zero, suc, min, Bool, true, cond, nat_eq, Option, Some, None, List, [], ◌∷◌, ◌++◌, length, map, slice_get, slice_set, reverse, refl, sym, ap, ◌∙◌, subst, ⊎_elim, eq-eqb, arith, append_assoc}
+use Rattle.std.specs.Prelude.{get_or}
+use Rattle.std.specs.List.{AllByRecursion, count_by}
 use Rattle.std.proofs.lemmas.Bool.{cases_eq}
 use Rattle.std.proofs.lemmas.List.{length_push, map-append, reverse-append}
 use Rattle.std.proofs.lemmas.List.Sums.{sum_by-append}

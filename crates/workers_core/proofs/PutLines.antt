@@ -10,7 +10,7 @@ use Rattle.queue_model.specs.History.{after}
 use Rattle.queue_model.specs.Sound.{IsOpening}
 use Rattle.queue_model.specs.Table.{FitsQueue, acted}
 use Rattle.acts_core.specs.Asked.{KeyFits, MayPut}
-use Rattle.acts_core.specs.Calls.{Call, CallPut, CallReserve, Answer, IsAt, IsDepth}
+use Rattle.acts_core.specs.Calls.{CallPut, CallReserve, IsAt, IsDepth}
 use Rattle.acts_core.specs.Load.{Load}
 use Rattle.acts_core.specs.Meaning.{Besides, Called}
 use Rattle.acts_core.specs.Sight.{Build, Kind, Listed, Showed, Sight, known, plan_of}
@@ -20,7 +20,7 @@ use Rattle.defs_read.specs.Slips.{IsSlip}
 use Rattle.message_core.specs.Spelling.{Content}
 use Rattle.script_read.specs.declared.lines.What.TheVariants.{Put}
 use Rattle.report_core.specs.declared.answers.Answer.TheVariants.{Accepted}
-use Rattle.line_core.specs.Fits.{Did, On, Standing, fresh, nothing_dropped}
+use Rattle.line_core.specs.Fits.{On, Standing, fresh, nothing_dropped}
 use Rattle.workers_core.specs.Hold.{Keeps}
 use Rattle.line_core.specs.Runs.{DidOn}
 use Rattle.workers_core.proofs.Calls.{keeps_call, keeps_then}

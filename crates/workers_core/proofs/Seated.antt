@@ -1,6 +1,5 @@
 -- takes, and the targets that they are for
-use Rattle.std.proofs.Common.{◌≡◌, ◌<◌, ◌≤◌, ◌-◌, ◌+◌, ℕ, suc, true, false, nat_eq, min, Option, Some, None, List, [], ◌∷◌, length, slice_set, refl, sym, ap, ◌∙◌, subst, eq-eqb, ne_eqb, arith}
-use Rattle.std.specs.Prelude.{nat_le}
+use Rattle.std.proofs.Common.{◌≡◌, ◌<◌, ◌≤◌, ℕ, true, false, nat_eq, Option, Some, None, List, [], ◌∷◌, length, slice_set, refl, sym, ap, ◌∙◌, subst, eq-eqb, ne_eqb, arith}
 use Rattle.std.specs.Option.{option_map}
 use Rattle.std.proofs.lemmas.Bool.Decides.{nat_tests}
 use Rattle.acts_core.specs.Calls.{CallNext, IsEmpty, IsGot}
@@ -13,7 +12,7 @@ use Rattle.report_core.specs.declared.answers.Answer.TheVariants.{Closed, Empty,
 use Rattle.target_core.specs.Seats.{IsWithin, Seat, Seats, left_of, seat_at, served}
 use Rattle.target_core.specs.declared.deliveries.Delivery.{Delivery}
 use Rattle.txn_core.specs.Shown.{number_after}
-use Rattle.line_core.specs.Fits.{Did, On, Standing, delivered, in_hands}
+use Rattle.line_core.specs.Fits.{On, Standing, delivered, in_hands}
 use Rattle.line_core.specs.Hands.{Hand, gained, hand}
 use Rattle.line_core.specs.Places.{IsDelivery, IsReady, is_at, is_full, place_of}
 use Rattle.line_core.specs.Runs.{DidOn}

@@ -1,8 +1,7 @@
 -- lines over passes, one after the other
-use Rattle.std.proofs.Common.{◌≡◌, ℕ, ◌+◌, ◌<◌, ◌≤◌, Bool, true, false, cond, Option, Some, None, List, [], ◌∷◌, ◌++◌, length, map, slice_get, slice_set, refl, sym, ap, ◌∙◌, subst, ⊎_elim, arith}
+use Rattle.std.proofs.Common.{◌≡◌, ℕ, ◌<◌, Some, List, ◌++◌, length, slice_get, ◌∙◌}
 use Rattle.std.specs.Prelude.{get_or}
 use Rattle.std.proofs.lemmas.Option.{slice_get_within, slice_get-get_or}
-use Rattle.acts_core.specs.Calls.{Call, Answer}
 use Rattle.acts_core.specs.Sight.{Build, Sight}
 use Rattle.defs_read.specs.Defined.{Defined}
 use Rattle.script_read.specs.declared.lines.Op.{Op}

@@ -1,19 +1,18 @@
 -- lines that gain an entry
-use Rattle.std.proofs.Common.{◌≡◌, ◌≤◌, ℕ, false, Option, Some, None, List, [], ◌∷◌, ◌++◌, nat_eq, refl, sym, ap, ap₂, ◌∙◌, subst, eq-eqb, ne_eqb, arith}
+use Rattle.std.proofs.Common.{◌≡◌, ◌≤◌, ℕ, false, Option, Some, None, List, [], ◌∷◌, nat_eq, refl, sym, ap, ◌∙◌, subst, eq-eqb, ne_eqb, arith}
 use Rattle.queue_model.specs.declared.rows.Row.{Row}
 use Rattle.queue_model.specs.declared.rows.RowState.{RowState}
 use Rattle.queue_model.specs.declared.rows.Slip.{Slip}
-use Rattle.queue_model.specs.State.{row_at}
-use Rattle.acts_core.specs.Calls.{Call, CallNext, CallFind, CallSteal, Answer, IsGot, IsEmpty, IsFound, HasStolen, IsNotStealable, IsMoved, acts_of}
+use Rattle.acts_core.specs.Calls.{CallNext, CallFind, CallSteal, Answer, IsGot, IsEmpty, IsFound, HasStolen, IsNotStealable, IsMoved, acts_of}
 use Rattle.acts_core.specs.Load.{Load}
 use Rattle.acts_core.specs.Meaning.{Called}
 use Rattle.acts_core.specs.Owed.{Has}
 use Rattle.acts_core.specs.Sight.{Build, Sight, known, plan_of}
 use Rattle.script_read.specs.declared.lines.What.TheVariants.{Steal}
 use Rattle.report_core.specs.declared.answers.Answer.TheVariants.{Stole, NotStealable, Moved, Absent}
-use Rattle.line_core.specs.Fits.{Did, On, Standing, delivered, in_hands, tried}
-use Rattle.line_core.specs.Hands.{Hand, gained, hand}
-use Rattle.workers_core.specs.Hold.{Hold, Keeps}
+use Rattle.line_core.specs.Fits.{On, delivered, in_hands, tried}
+use Rattle.line_core.specs.Hands.{Hand, gained}
+use Rattle.workers_core.specs.Hold.{Hold}
 use Rattle.workers_core.specs.Lines.{DidHands}
 use Rattle.line_core.specs.Runs.{RanOn, calls_on}
 use Rattle.workers_core.proofs.Calls.{keeps_call, keeps_idle, gains_mine}

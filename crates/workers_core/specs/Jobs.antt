@@ -1,5 +1,5 @@
 -- lines with what was found out about them before their phase began
-use Rattle.std.specs.Prelude.{◌≡◌, ℕ, ◌<◌, ◌≤◌, ◌==◌, Bool, true, false, Option, Some, None, List, [], ◌∷◌, length, slice_get}
+use Rattle.std.specs.Prelude.{◌≡◌, ℕ, ◌<◌, ◌==◌, Bool, false, Option, Some, None, List, length, slice_get}
 use mathlib.Core.List.{Mem}
 use Rattle.queue_model.specs.declared.rows.Slip.{Slip}
 use Rattle.queue_model.specs.Table.{FitsQueue}
@@ -8,7 +8,7 @@ use Rattle.message_core.specs.Spelling.{Content, content}
 use Rattle.defs_read.specs.Defined.{Defined}
 use Rattle.defs_read.specs.Slips.{IsSlip}
 use Rattle.script_read.specs.declared.lines.What.{What}
-use Rattle.script_read.specs.declared.lines.What.TheVariants.{Put, Take, Close, Ack, Release, Lock, Unlock, Steal, Begin, Commit, Rollback}
+use Rattle.script_read.specs.declared.lines.What.TheVariants.{Put, Take, Close, Ack, Release, Lock, Unlock, Steal}
 use Rattle.target_core.specs.Seats.{Seats, seat_at}
 use Rattle.line_core.specs.Places.{IsReady, place_of}
 use Rattle.workers_core.specs.declared.jobs.Aid.{Aid}

@@ -1,5 +1,5 @@
 -- one line over one queue's pass
-use Rattle.std.specs.Prelude.{◌≡◌, ◌+◌, ◌≤◌, ℕ, Option, Some, None, List, [], ◌∷◌, ◌++◌}
+use Rattle.std.specs.Prelude.{◌≡◌, ℕ, Option, Some, None, List, [], ◌∷◌}
 use Rattle.queue_model.specs.declared.rows.RowState.{RowState}
 use Rattle.acts_core.specs.Calls.{CallLock, IsStolen}
 use Rattle.acts_core.specs.Load.{Load}

@@ -1,7 +1,7 @@
 -- an actor before and after a phase
-use Rattle.std.specs.Prelude.{◌≡◌, ℕ, ◌+◌, ◌≤◌, List, [], ◌∷◌, ◌++◌, length, map, reverse, Some, slice_get}
+use Rattle.std.specs.Prelude.{◌≡◌, ℕ, ◌≤◌, List, [], ◌++◌, length, map, reverse}
 use Rattle.std.specs.List.{AllByRecursion}
-use Rattle.acts_core.specs.Sight.{Build, Listed, Sight}
+use Rattle.acts_core.specs.Sight.{Build, Sight}
 use Rattle.defs_read.specs.Defined.{Defined}
 use Rattle.script_read.specs.declared.lines.Op.{Op}
 use Rattle.report_core.specs.declared.answers.Answer.{Answer}

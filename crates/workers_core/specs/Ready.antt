@@ -1,14 +1,13 @@
 -- what an actor needs of its queues and passes before a line, and has again after it
-use Rattle.std.specs.Prelude.{◌≡◌, ℕ, ◌+◌, ◌<◌, ◌≤◌, if◌then◌else◌, Some, None, List, [], ◌∷◌, length, map, slice_get}
+use Rattle.std.specs.Prelude.{◌≡◌, ℕ, ◌+◌, ◌<◌, ◌≤◌, if◌then◌else◌, Some, None, List, length, slice_get}
 use Rattle.std.specs.List.{AllByRecursion, count_by, sum_by}
 use mathlib.Core.List.{Mem}
 use Rattle.queue_model.specs.Table.{FitsQueue}
 use Rattle.queue_model.specs.Keyed.{Apart}
-use Rattle.acts_core.specs.Sight.{Build, Listed, Sight}
+use Rattle.acts_core.specs.Sight.{Sight}
 use Rattle.message_core.specs.Spelling.{Content, content}
-use Rattle.script_read.specs.declared.lines.Op.{Op}
 use Rattle.script_read.specs.declared.lines.What.{What}
-use Rattle.script_read.specs.declared.lines.What.TheVariants.{Put, Take, Close, Ack, Release, Lock, Unlock, Steal, Begin, Commit, Rollback}
+use Rattle.script_read.specs.declared.lines.What.TheVariants.{Put, Take, Close, Ack, Release, Lock, Unlock, Steal}
 use Rattle.target_core.specs.Seats.{Seats, seat_at}
 use Rattle.queue_model.specs.declared.rows.Slip.{Slip}
 use Rattle.line_core.specs.Hands.{Hand, same_hand}

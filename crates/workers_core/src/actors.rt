@@ -72,7 +72,7 @@ impl<Q: SharedQueue<Parcel>> Actor<Q> {
 }
 
 /// Does an actor's lines in order, and then leaves what it has locked.
-pub fn run_actor<Q: SharedQueue<Parcel>, G: Gate>(
+pub(crate) fn run_actor<Q: SharedQueue<Parcel>, G: Gate>(
     defs: &Defs,
     queues: &[Q],
     actor: &mut Actor<Q>,

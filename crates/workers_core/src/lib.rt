@@ -1,4 +1,4 @@
-//! Actors: the lines of a script as calls on queues.
+//! Actors on threads: the lines of a script as calls on queues, and phases in which actors run beside each other.
 #![tactic(auto)]
 
 mod acks;
@@ -8,10 +8,12 @@ mod jobs;
 mod leaving;
 mod lines;
 mod locks;
+mod phases;
 mod puts;
 mod steals;
 mod takes;
 
-pub use actors::{Actor, ActorEnd, run_actor};
+pub use actors::{Actor, ActorEnd};
 pub use held::Kept;
 pub use jobs::{Aid, Job};
+pub use phases::run_phase;

@@ -1,7 +1,7 @@
-use Rattle.std.proofs.Common.{◌≡◌, refl, sym, ap, ◌∙◌, subst, List}
+use Rattle.std.proofs.Common.{refl, sym, subst}
 use Rattle.std.specs.Option.{option_map}
 use Rattle.txn_core.specs.Parcels.{load_of}
-use Rattle.line_core.specs.Hands.{Hand, hand}
+use Rattle.line_core.specs.Hands.{hand}
 use Rattle.workers_core.specs.Held.{hands_of}
 use Rattle.workers_core.specs.Hold.{Hold, KeepsOthers}
 use Rattle.workers_core.specs.Lines.{DidHands}

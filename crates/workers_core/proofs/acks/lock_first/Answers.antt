@@ -1,4 +1,4 @@
-use Rattle.std.proofs.Common.{◌≡◌, Some, None, refl, sym, ap, ◌∙◌}
+use Rattle.std.proofs.Common.{ap}
 use Rattle.std.specs.Option.{option_map}
 use Rattle.txn_core.specs.Parcels.{load_of}
 use Rattle.workers_core.proofs.Calls.{locks_some, locks_none, loses_none}

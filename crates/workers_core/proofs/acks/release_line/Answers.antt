@@ -1,11 +1,11 @@
-use Rattle.std.proofs.Common.{◌≡◌, refl, sym, ap, ◌∙◌, subst, List}
+use Rattle.std.proofs.Common.{refl, sym, subst}
 use Rattle.std.specs.Option.{option_map}
 use Rattle.txn_core.specs.Parcels.{load_of}
 use Rattle.line_core.specs.Hands.{hand}
 use Rattle.workers_core.specs.Held.{hands_of}
 use Rattle.workers_core.specs.Hold.{Hold, KeepsOthers}
 use Rattle.workers_core.specs.Lines.{DidHands}
-use Rattle.workers_core.proofs.AckLines.{freed, release_keeps, taken_release, never_outdated}
+use Rattle.workers_core.proofs.AckLines.{freed, release_keeps, taken_release}
 use Rattle.workers_core.proofs.Holds.{hold_mine, hold_lost, others_lost}
 use Rattle.workers_core.proofs.acks.release_line.Goals as goal
 

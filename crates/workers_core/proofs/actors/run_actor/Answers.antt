@@ -1,7 +1,6 @@
-use Rattle.std.proofs.Common.{List, map, ap}
+use Rattle.std.proofs.Common.{map, ap}
 use Rattle.defs_read.specs.Defined.{queues_in}
 use Rattle.workers_core.specs.Held.{hands_of}
-use Rattle.workers_core.specs.declared.jobs.Job.{Job}
 use Rattle.workers_core.proofs.Onward.{has_run}
 use Rattle.workers_core.proofs.actors.run_actor.Goals as goal
 

@@ -1,5 +1,4 @@
-use Rattle.std.proofs.Common.{◌≡◌, refl, sym, ap, ◌∙◌, arith, map, subst, ℕ, find, take, None, suc, ◌+◌}
-use Rattle.std.proofs.lemmas.List.{length-map}
+use Rattle.std.proofs.Common.{◌≡◌, sym, ◌∙◌, arith, subst, ℕ, find, take, None, suc, ◌+◌}
 use Rattle.line_core.specs.Hands.{is_this}
 use Rattle.workers_core.specs.Held.{hand_of, hands_of}
 use Rattle.workers_core.proofs.Lists.{hand_got, find_at, find_next, same_key}

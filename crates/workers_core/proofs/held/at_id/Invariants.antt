@@ -1,4 +1,4 @@
-use Rattle.std.proofs.Common.{length, ◌-◌, ◌≡◌, ◌<◌, ◌≤◌, ◌+◌, ℕ, None, find, take}
+use Rattle.std.proofs.Common.{length, ◌-◌, ◌≡◌, ◌≤◌, None, find, take}
 use Rattle.line_core.specs.Hands.{is_this}
 use Rattle.workers_core.specs.Held.{hands_of}
 use Rattle.workers_core.proofs.held.at_id.Given as goal

@@ -1,4 +1,4 @@
-use Rattle.std.proofs.Common.{◌≡◌, ◌+◌, ◌-◌, ℕ, suc, refl, sym, ap, subst, ◌∙◌, arith, map, eq-eqb, ne_eqb, filter, drop, []}
+use Rattle.std.proofs.Common.{◌≡◌, ◌-◌, ℕ, suc, sym, ap, subst, ◌∙◌, arith, eq-eqb, ne_eqb, filter, drop, []}
 use Rattle.workers_core.specs.declared.held.Kept.{Kept}
 use Rattle.line_core.specs.Hands.{is_of}
 use Rattle.workers_core.specs.Held.{hand_of, hands_of}

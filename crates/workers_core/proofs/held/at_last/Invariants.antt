@@ -1,4 +1,4 @@
-use Rattle.std.proofs.Common.{length, ◌-◌, ◌≡◌, ◌<◌, ◌≤◌, ◌+◌, ℕ, [], filter, drop}
+use Rattle.std.proofs.Common.{length, ◌≡◌, ◌≤◌, [], filter, drop}
 use Rattle.line_core.specs.Hands.{is_of}
 use Rattle.workers_core.specs.Held.{hands_of}
 use Rattle.workers_core.proofs.held.at_last.Given as goal

@@ -1,4 +1,4 @@
-use Rattle.std.proofs.Common.{◌≡◌, refl, sym, ap, ◌∙◌, List}
+use Rattle.std.proofs.Common.{ap, ◌∙◌, List}
 use Rattle.workers_core.specs.Held.{hands_of}
 use Rattle.workers_core.specs.declared.held.Kept.{Kept}
 use Rattle.workers_core.proofs.Holds.{gained_after, gained_none}

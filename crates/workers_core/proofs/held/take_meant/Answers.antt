@@ -1,4 +1,3 @@
-use Rattle.std.proofs.Common.{◌≡◌, refl, sym, ap, ◌∙◌}
 use Rattle.workers_core.proofs.Holds.{took_meant}
 use Rattle.workers_core.proofs.held.take_meant.Goals as goal
 

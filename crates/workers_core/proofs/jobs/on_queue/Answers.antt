@@ -1,4 +1,4 @@
-use Rattle.std.proofs.Common.{◌≡◌, ℕ, refl, sym, ap, ◌∙◌, subst}
+use Rattle.std.proofs.Common.{subst}
 use Rattle.script_read.specs.declared.lines.What.{What}
 use Rattle.script_read.specs.declared.lines.What.TheVariants.{Ack, Release, Lock, Unlock, Steal}
 use Rattle.workers_core.specs.Held.{hands_of}

@@ -1,4 +1,4 @@
-use Rattle.std.proofs.Common.{◌≡◌, List, [], ◌∷◌, ◌++◌, map, length, reverse, refl, sym, ap, ◌∙◌, subst, append_assoc}
+use Rattle.std.proofs.Common.{List, [], ◌++◌, map, reverse, sym, ap, ◌∙◌, subst, append_assoc}
 use Rattle.line_core.specs.Fits.{unlock_of, unlocks}
 use Rattle.line_core.specs.Hands.{Hand}
 use Rattle.workers_core.specs.Held.{hand_of, hands_of}

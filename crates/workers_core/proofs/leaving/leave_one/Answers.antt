@@ -1,4 +1,4 @@
-use Rattle.std.proofs.Common.{◌≡◌, ◌<◌, ℕ, List, [], map, length, slice_get, slice_set, Some, None, refl, sym, ap, ◌∙◌, subst, arith}
+use Rattle.std.proofs.Common.{◌<◌, List, [], map, length, slice_set, refl, sym, subst, arith}
 use Rattle.std.specs.Option.{option_map}
 use Rattle.acts_core.specs.Hands.{InHand}
 use Rattle.acts_core.specs.Sight.{Sight}

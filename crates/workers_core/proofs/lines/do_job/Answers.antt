@@ -1,4 +1,4 @@
-use Rattle.std.proofs.Common.{◌≡◌, ◌<◌, ℕ, List, [], ◌∷◌, map, length, slice_get, slice_set, Some, None, refl, sym, ap, ◌∙◌, subst, arith}
+use Rattle.std.proofs.Common.{◌≡◌, ◌<◌, List, [], ◌∷◌, map, length, slice_set, sym, ap, ◌∙◌, subst, arith}
 use Rattle.acts_core.specs.Sight.{Listed, Sight}
 use Rattle.script_read.specs.declared.lines.What.{What}
 use Rattle.workers_core.specs.Held.{hands_of}

@@ -1,12 +1,12 @@
-use Rattle.std.proofs.Common.{◌≡◌, None, Some, refl, sym, ap, ◌∙◌, subst}
+use Rattle.std.proofs.Common.{None, Some, refl, sym, ◌∙◌, subst}
 use Rattle.std.specs.Option.{option_map}
 use Rattle.txn_core.specs.Parcels.{load_of}
 use Rattle.line_core.specs.Fits.{NoneLocked}
-use Rattle.line_core.specs.Hands.{Hand, hand}
+use Rattle.line_core.specs.Hands.{hand}
 use Rattle.workers_core.specs.Held.{hands_of}
 use Rattle.workers_core.specs.Hold.{Hold, KeepsOthers}
 use Rattle.workers_core.specs.Lines.{DidHands}
-use Rattle.workers_core.proofs.Holds.{found_here, found_with, others_same, others_replaced}
+use Rattle.workers_core.proofs.Holds.{found_here, found_with, others_replaced}
 use Rattle.workers_core.proofs.LockLines.{no_unlock, replaced_self, unlocked, unlocked_hold}
 use Rattle.workers_core.proofs.locks.unlock_line.Goals as goal
 

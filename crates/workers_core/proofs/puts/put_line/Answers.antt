@@ -1,4 +1,3 @@
-use Rattle.std.proofs.Common.{◌≡◌, refl, sym, ap, ◌∙◌}
 use Rattle.txn_core.specs.Parcels.{load_of}
 use Rattle.workers_core.proofs.PutLines.{put_may, put_keeps, put_did}
 use Rattle.workers_core.proofs.puts.put_line.Goals as goal

@@ -1,4 +1,4 @@
-use Rattle.std.proofs.Common.{◌≡◌, ℕ, Some, refl, sym, ap, ◌∙◌, subst}
+use Rattle.std.proofs.Common.{ℕ, Some, refl, sym, ap, ◌∙◌, subst}
 use Rattle.txn_core.specs.Parcels.{load_of}
 use Rattle.line_core.specs.Hands.{gained, hand}
 use Rattle.workers_core.specs.Held.{hands_of}
