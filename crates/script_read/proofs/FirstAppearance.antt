@@ -119,6 +119,7 @@ filed_names ops op (n ∷ names) distinct new = by_tests (bytes_eq n op.actor) r
     behind : (c : Bool) → ◌≡◌ {A = Actors} (entry (ops ++ op ∷ []) n ∷ map (entry (ops ++ op ∷ [])) (with_name c op.actor names)) (map (entry (ops ++ op ∷ [])) (with_name c op.actor (n ∷ names)))
     behind true = refl
     behind false = refl
+
     by_tests : (b : Bool) → bytes_eq n op.actor ≡ b → (d : Bool) → d ≡ bytes_eq n op.actor → ((d || is_among op.actor names) ≡ false → own_lines ops op.actor ≡ [])
         → ((is_among op.actor names ≡ false → own_lines ops op.actor ≡ []) → filed op (map (entry ops) names) ≡ map (entry (ops ++ op ∷ [])) (with_name (is_among op.actor names) op.actor names))
         → cond b ((n, own_lines ops n ++ op ∷ []) ∷ map (entry ops) names) ((n, own_lines ops n) ∷ filed op (map (entry ops) names))
