@@ -2,7 +2,7 @@ pub mod Once
 pub mod Last
 pub mod Telling
 pub mod Counting
-pub mod Row25
+pub mod TwoPhases
 pub mod Following
 pub mod Closing
 pub mod Serving

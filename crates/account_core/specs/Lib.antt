@@ -8,4 +8,4 @@ pub mod Runs
 pub mod Served
 pub mod Last
 pub mod Laws
-pub mod Row25
+pub mod TwoPhases

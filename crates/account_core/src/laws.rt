@@ -3,7 +3,7 @@ ghost use Rattle.account_core.specs.Laws.{AccountTold, CarryFrees, CarryKeeps, C
 ghost use Rattle.account_core.specs.Last.{LastTouch};
 ghost use Rattle.account_core.specs.Runs.{NoneRan};
 ghost use Rattle.account_core.specs.Served.{StoryServes};
-ghost use Rattle.account_core.specs.Row25.{Row25Runs, Row25Text};
+ghost use Rattle.account_core.specs.TwoPhases.{TwoPhasesRuns, TwoPhasesText};
 
 /// What no history has: an entry with two holders, or one that is dequeued twice; and how a row came into its state.
 pub fn histories()
@@ -44,6 +44,6 @@ pub fn runs()
 
 /// An account of two phases with a rest between them: its text, and that it is one.
 pub fn put_take_rest_take()
-    ensures text { Row25Text }
-    ensures runs { Row25Runs }
+    ensures text { TwoPhasesText }
+    ensures runs { TwoPhasesRuns }
 {}

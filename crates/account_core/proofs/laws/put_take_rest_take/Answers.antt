@@ -1,4 +1,4 @@
-use Rattle.account_core.proofs.Row25.{row25_text, row25_runs}
+use Rattle.account_core.proofs.TwoPhases.{row25_text, row25_runs}
 use Rattle.account_core.proofs.laws.put_take_rest_take.Goals as goal
 
 pub returns : goal.returns

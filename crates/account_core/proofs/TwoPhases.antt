@@ -26,9 +26,9 @@ use Rattle.account_core.specs.Carry.{Opens}
 use Rattle.account_core.specs.Phases.{IsPhase}
 use Rattle.account_core.specs.Played.{Played, IsPlayed, IsByActor, Makes, rest_of}
 use Rattle.account_core.specs.Stories.{Story, IsStory, calls_of}
-use Rattle.account_core.specs.Row25.{one_queue, queue_q, message, slip, load, delivery, seat_of, first, played_first, second, carried_row, played_second, Row25Text, Row25Runs}
+use Rattle.account_core.specs.TwoPhases.{one_queue, queue_q, message, slip, load, delivery, seat_of, first, played_first, second, carried_row, played_second, TwoPhasesText, TwoPhasesRuns}
 
-pub row25_text : Row25Text
+pub row25_text : TwoPhasesText
 unfolding digits
 row25_text = refl
 
@@ -243,7 +243,7 @@ opens_first = record { kind = refl; rings = refl; lists = refl; consumers = refl
 opens_second : Opens queue_q (carried_row ∷ []) played_second.plan
 opens_second = record { kind = refl; rings = refl; lists = refl; consumers = refl; kept = refl; fits = record { rows_apart = (refl, tt); rows_fit = (record { size = omega arith; list = omega arith; mask = omega arith }, tt); available = (refl, tt); reserved = refl; bells = refl; few = omega arith } }
 
-pub row25_runs : Row25Runs
+pub row25_runs : TwoPhasesRuns
 row25_runs = (
   _,
   one_phase [] first played_first (seat_of 0 []) (seat_of 0 (delivery 1 ∷ [])) opens_first first_is first_played (goes first _ _ _ _ 1 _ refl refl (refl, refl) (refl, refl) refl refl),

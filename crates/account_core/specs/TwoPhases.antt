@@ -98,9 +98,9 @@ abbrev pub accounts : List Account
 accounts = record { queues = played_first ∷ []; stories = first ∷ [] } ∷ (record { queues = played_second ∷ []; stories = second ∷ [] } ∷ [])
 
 -- what is written
-abbrev pub Row25Text : Type 0
-Row25Text = run_text one_queue accounts ≡ codes "a 2 ok 7\na 3 got 7 1\nqueue q 1 16\nentry 7 held a\na 5 got 7 2\nqueue q 1 16\nentry 7 held a\n"
+abbrev pub TwoPhasesText : Type 0
+TwoPhasesText = run_text one_queue accounts ≡ codes "a 2 ok 7\na 3 got 7 1\nqueue q 1 16\nentry 7 held a\na 5 got 7 2\nqueue q 1 16\nentry 7 held a\n"
 
 -- they are accounts of the two phases
-abbrev pub Row25Runs : Type 0
-Row25Runs = ArePhases one_queue (nothing one_queue) (seat 0 []) (((codes "a", first.ops) ∷ []) ∷ (((codes "a", second.ops) ∷ []) ∷ [])) accounts (seat 0 (delivery 1 ∷ (delivery 2 ∷ [])))
+abbrev pub TwoPhasesRuns : Type 0
+TwoPhasesRuns = ArePhases one_queue (nothing one_queue) (seat 0 []) (((codes "a", first.ops) ∷ []) ∷ (((codes "a", second.ops) ∷ []) ∷ [])) accounts (seat 0 (delivery 1 ∷ (delivery 2 ∷ [])))
