@@ -2,5 +2,6 @@
 #![tactic(auto)]
 
 mod kinds;
+mod passes;
 
 pub use kinds::{AnyPass, AnyQueue};

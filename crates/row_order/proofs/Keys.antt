@@ -1,15 +1,15 @@
 -- keys and the order of rows
-use Rattle.std.proofs.Common.{◌≡◌, ◌≢◌, ◌⊎◌, ◌↔◌, inl, inr, ℕ, ◌<◌, ◌≤◌, Bool, true, false, IsTrue, Option, Some, None, List, [], ◌∷◌, length, map, get_or, Ordering, Less, Equal, Greater, nat_lt, refl, sym, ap, ◌∙◌, subst, ⊎_elim, arith}
+use Rattle.std.proofs.Common.{◌≡◌, ◌≢◌, ◌⊎◌, ◌↔◌, inl, inr, ℕ, ◌<◌, Bool, Option, Some, None, List, length, get_or, Less, Equal, Greater, refl, sym, ap, ◌∙◌, subst, ⊎_elim, arith}
 use Rattle.std.proofs.lemmas.Cmp.{tied_itself, nat_list_cmp_total}
 use Rattle.std.proofs.lemmas.List.{get_or-map}
 use Rattle.std.specs.Cmp.Lexicographic.{slice_cmp}
 use Rattle.std.specs.Ordering.{nat_cmp, ordering_reverse}
 use mathlib.Core.Logic.{dite}
-use native.Mathlib.Decide.{ℕ_discrete, dec_lt}
+use native.Mathlib.Decide.{dec_lt}
 use Rattle.queue_model.specs.Order.{KeyBefore}
 use Rattle.queue_model.proofs.Orders.{same_key, key_cases}
 use Rattle.row_order.specs.declared.slots.Slot.{Slot}
-use Rattle.row_order.specs.Order.{key_cmp, key_of, key_at, rank, ranks, before}
+use Rattle.row_order.specs.Order.{key_cmp, key_of, rank, ranks, before}
 
 pub key_not : (k : Option (List ℕ)) → KeyBefore k k → ⊥
 key_not None before = before

@@ -1,11 +1,11 @@
 -- the way down to the available row of the least number
-use Rattle.std.proofs.Common.{◌≡◌, ◌≢◌, ◌⊎◌, inl, inr, ℕ, ◌+◌, ◌-◌, ◌*◌, ◌/◌, ◌^◌, ◌<◌, ◌≤◌, Option, List, length, get_or, refl, sym, ap, ◌∙◌, subst, ⊎_elim, arith, zero, suc}
+use Rattle.std.proofs.Common.{◌≡◌, ℕ, ◌+◌, ◌-◌, ◌*◌, ◌/◌, ◌^◌, ◌<◌, ◌≤◌, Option, List, get_or, refl, sym, ap, ◌∙◌, ⊎_elim, arith, zero, suc}
 use Rattle.std.proofs.Math.Nat.{pow-succ', mul_assoc}
 use Rattle.std.proofs.lemmas.Nat.{pow_pos}
 use mathlib.Core.Logic.{dite}
-use native.Mathlib.Decide.{ℕ_discrete, dec_lt}
+use native.Mathlib.Decide.{dec_lt}
 use Rattle.row_order.specs.Tree.{Crowned, half, IsFreeLeaf, Leftmost}
-use Rattle.row_order.proofs.Crowns.{half_in, half_le, reach_root, crown_beats, crown_leaf}
+use Rattle.row_order.proofs.Crowns.{half_in, reach_root, crown_beats, crown_leaf}
 
 double : (k a : ℕ) → 2 ^ suc k * a ≡ 2 * (2 ^ k * a)
 double k a = ap (λ (n : ℕ). n * a) (pow-succ' 2 k) ∙ mul_assoc 2 (2 ^ k) a

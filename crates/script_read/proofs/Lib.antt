@@ -12,3 +12,5 @@ pub mod Says
 pub mod DefinedLines
 pub mod Filed
 pub mod AllowedLines
+pub mod FirstAppearance
+pub mod FirstRefused

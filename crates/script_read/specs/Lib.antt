@@ -9,3 +9,4 @@ pub mod Phases
 pub mod Scripts
 pub mod Allowed
 pub mod SoFar
+pub mod Laws

@@ -6,6 +6,7 @@
 
 mod checks;
 mod faults;
+pub mod laws;
 mod line_feeds;
 mod lines;
 mod messages;

@@ -1,4 +1,4 @@
-use Rattle.std.proofs.Common.{rules, ◌≡◌, ◌≢◌, ◌⊎◌, inl, ◌<◌, ◌≤◌, ◌+◌, ℕ, true, false, Some, None, List, [], ◌∷◌, ◌++◌, length, filter, ◌==◌, refl, sym, ap, ◌∙◌, subst, arith, ne_eqb, length-append}
+use Rattle.std.proofs.Common.{◌≡◌, ◌≢◌, inl, ◌<◌, ◌≤◌, ◌+◌, ℕ, false, Some, [], ◌∷◌, filter, ◌==◌, refl, sym, ap, ◌∙◌, subst, arith, ne_eqb, length-append}
 use Rattle.std.proofs.lemmas.Bool.{cond-false}
 use Rattle.history_lock.specs.declared.view.View.{View}
 use Rattle.history_lock.specs.Counting.{counting}
@@ -38,8 +38,7 @@ small v w n is t = let a = ap (λ (x : View ℕ ℕ). x.allowance) is in let m =
 for_all : (v w : View ℕ ℕ) (n : ℕ) → v ≡ opened 5 1 0 [] → Took counting 5 v w n → ((o : ℕ) × (w.opening ≡ Some o)) × (false ≡ false) × ForAll (given (0 ∷ []) 0 0 w)
 for_all v w n is t =
     let callers : w.callers ≡ 0 ∷ [] = ap (λ (x : View ℕ ℕ). x.callers) t.view ∙ ap (λ (x : View ℕ ℕ). x.callers) is in
-    let made : w.made ≡ 1 = ap (λ (x : View ℕ ℕ). x.made) t.view ∙ ap (λ (x : View ℕ ℕ). x.made) is in
-    (
+    let made : w.made ≡ 1 = ap (λ (x : View ℕ ℕ). x.made) t.view ∙ ap (λ (x : View ℕ ℕ). x.made) is in (
       (5, ap (λ (x : View ℕ ℕ). x.opening) t.view ∙ ap (λ (x : View ℕ ℕ). x.opening) is),
       refl,
       record {

@@ -1,7 +1,7 @@
-use Rattle.std.proofs.Common.{rules, ◌≡◌, ◌∙◌, sym, ap, true, false, IsTrue, nat_lt, ◌<◌, ℕ, arith, Greater, Equal}
+use Rattle.std.proofs.Common.{◌≡◌, ◌∙◌, sym, true, nat_lt, ◌<◌, ℕ, arith}
 use Rattle.std.proofs.lemmas.Bool.Decides.{nat_tests}
 use Rattle.row_order.proofs.Keys.{by_greater, by_equal, rank_read}
-use Rattle.row_order.specs.Order.{ranks, before}
+use Rattle.row_order.specs.Order.{ranks}
 use Rattle.row_order.proofs.order.is_before.Goals as goal
 
 pub returns-in-Greater : goal.returns-in-Greater

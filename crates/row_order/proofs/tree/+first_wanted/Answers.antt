@@ -1,4 +1,4 @@
-use Rattle.std.proofs.Common.{rules, ◌≡◌, ◌<◌, ◌≤◌, ◌-◌, ◌*◌, ◌+◌, ℕ, List, length, map, get_or, arith, sym, ap, ◌∙◌, subst}
+use Rattle.std.proofs.Common.{rules, ◌≡◌, ◌<◌, ◌≤◌, ◌*◌, ◌+◌, length, get_or}
 use Rattle.row_order.specs.Order.{ranks, IsWanted}
 use Rattle.row_order.proofs.Crowns.{nothing_below, best_wanted, leaf_unwanted, join_below, below_inside}
 use Rattle.row_order.proofs.tree.+first_wanted.Goals as goal

@@ -1,4 +1,4 @@
-use Rattle.std.proofs.Common.{◌<◌, ◌≤◌, ◌-◌, ℕ, length}
+use Rattle.std.proofs.Common.{◌<◌, ◌≤◌, ℕ, length}
 use Rattle.row_order.specs.Order.{ranks}
 use Rattle.row_order.specs.Tree.{Leafed, IsRight, SameLeaves}
 use Rattle.row_order.proofs.tree.crown.Given as goal

@@ -1,5 +1,5 @@
-use Rattle.std.proofs.Common.{rules, ◌≡◌, ◌<◌, ◌≤◌, ◌+◌, ◌-◌, ℕ, suc, List, [], ◌∷◌, ◌++◌, length, get_or, arith, sym, ap, ◌∙◌, subst, refl}
-use Rattle.std.specs.Vec.{vec_len, vec_capacity}
+use Rattle.std.proofs.Common.{rules, ◌≡◌, ◌<◌, ◌-◌, suc, length, get_or, arith, sym, ◌∙◌, subst, refl}
+use Rattle.std.specs.Vec.{vec_len}
 use Rattle.row_order.specs.Order.{ranks}
 use Rattle.row_order.proofs.Drains.{Draining, drain_begins, drain_step, drain_room, drain_ends, no_items}
 use Rattle.row_order.proofs.tree.drain.Goals as goal

@@ -1,4 +1,4 @@
-use Rattle.std.proofs.Common.{rules, ◌≡◌, ◌<◌, ◌≤◌, ◌+◌, ◌*◌, ◌/◌, ◌^◌, ℕ, suc, get_or, arith, sym, ap, ◌∙◌, subst, ◌⊎◌, ⊎_elim}
+use Rattle.std.proofs.Common.{rules, ◌≡◌, ◌<◌, ◌≤◌, ◌+◌, ◌*◌, ◌/◌, ◌^◌, ℕ, get_or, arith, sym, ap, ◌∙◌, subst, ⊎_elim}
 use Rattle.std.proofs.Math.Nat.{le-mul_of_pos_right}
 use Rattle.row_order.specs.Tree.{IsFreeLeaf}
 use Rattle.row_order.proofs.Leftmosts.{no_leftmost, goes_right, lands, halves, spans, power_some}

@@ -1,4 +1,4 @@
-use Rattle.std.proofs.Common.{rules, ◌≡◌, ◌≢◌, ◌⊎◌, inl, inr, ◌<◌, ◌≤◌, ◌+◌, ◌-◌, ◌*◌, ℕ, suc, List, length, get_or, arith, sym, ap, ◌∙◌, subst, refl, ⊎_elim}
+use Rattle.std.proofs.Common.{rules, ◌≡◌, ◌⊎◌, inl, ◌<◌, ◌≤◌, ◌+◌, ◌-◌, ◌*◌, ℕ, suc, List, length, get_or, arith, sym, subst}
 use mathlib.Core.Logic.{dite}
 use native.Mathlib.Decide.{dec_lt}
 use Rattle.row_order.specs.Tree.{Leafed}

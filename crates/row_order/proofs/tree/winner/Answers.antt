@@ -1,4 +1,4 @@
-use Rattle.std.proofs.Common.{rules, ◌≡◌, ◌<◌, ◌-◌, ℕ, arith, sym, ◌∙◌}
+use Rattle.std.proofs.Common.{arith}
 use Rattle.row_order.specs.Order.{ranks}
 use Rattle.row_order.proofs.Crowns.{left_wins}
 use Rattle.row_order.proofs.tree.winner.Goals as goal

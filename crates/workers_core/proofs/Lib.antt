@@ -1,0 +1,15 @@
+pub mod Lists
+pub mod Calls
+pub mod Holds
+pub mod AckLines
+pub mod LockLines
+pub mod TakeLines
+pub mod PutLines
+pub mod Ones
+pub mod Frugal
+pub mod Steps
+pub mod Leaves
+pub mod Seated
+pub mod OnQueue
+pub mod OneJob
+pub mod Onward

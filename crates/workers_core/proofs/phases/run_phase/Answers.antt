@@ -1,0 +1,14 @@
+use Rattle.std.proofs.Common.{rules}
+use Rattle.workers_core.proofs.phases.run_phase.Goals as goal
+
+pub for_each_mut-requires-clause-accepts : goal.for_each_mut-requires-clause-accepts
+for_each_mut-requires-clause-accepts g c κs within = λ i p less at.
+    let m = c.requires.may i p.now less in
+    rw at ((m.0, m.1, m.2, m.3, m.4, c.requires.kind), (search rules, search rules, search rules))
+
+pub returns : goal.returns
+returns g c = record {
+  ran = λ i d less.
+      let ch = (c.for_each_mut.ensures i d less).1 in
+      rw (← ch.left) (rw (← ch.argument_is) ch.call);
+}

@@ -1,0 +1,6 @@
+pub mod Held
+pub mod Hold
+pub mod Lines
+pub mod Jobs
+pub mod Ready
+pub mod Phases
