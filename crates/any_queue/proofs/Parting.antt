@@ -5,12 +5,13 @@ use Rattle.queue_model.specs.declared.deeds.Deed.{Deed}
 use Rattle.queue_model.specs.declared.rows.Slip.{Slip}
 use Rattle.queue_model.specs.History.{own, after}
 use Rattle.acts_core.specs.Load.{Load}
-use Rattle.acts_core.specs.Sight.{silent_lists}
+use Rattle.acts_core.specs.Sight.{Build, silent_lists, Sight}
 use Rattle.entry_table.specs.declared.entries.Entries.{Entries}
 use Rattle.entry_table.specs.declared.pass.Pass.{Pass}
 use Rattle.entry_table.specs.declared.view.Shape.{Shape}
 use Rattle.entry_table.specs.Passes.{view, opening, seen, callers, allowance, share}
 use Rattle.entry_table.specs.Plays.{Steps, DidSplit, Joined}
+use Rattle.entry_table.specs.Rule.{below}
 use Rattle.entry_table.specs.Sights.{sight, build_of}
 use Rattle.entry_table.specs.Starting.{IsMade}
 use Rattle.entry_table.specs.Views.{Has, caller_of, rest_of}
@@ -97,3 +98,7 @@ all_callers p last k low = mem_has k (callers p) (subst (Mem k) (sym p.speaks) (
 -- of the consumers that the boss may part with, each is its own
 pub parts : (p : Pass) (cs : List ℕ) (n : ℕ) → MayPart (sight p) cs n → (c : ℕ) → Has c cs → Has c (view p).consumers
 parts p cs n may c has = mem_has c (view p).consumers (may.has c (has_mem c cs has))
+
+-- the boss's pass of a new queue of one consumer has it
+pub has_only : {C : Type 0} (load : C → Load) (lists rows n : ℕ) (start : List (Slip × C)) (build : Build) (s : Sight) → IsFresh load lists rows n start build s → n ≡ 1 → Mem 0 s.consumers
+has_only load lists rows n start build s f one = subst (Mem 0) (sym (ap (λ (z : Sight). z.consumers) f.sight ∙ ap below one)) mem-cons_self

@@ -5,3 +5,6 @@ mod kinds;
 mod passes;
 
 pub use kinds::{AnyPass, AnyQueue};
+
+#[cfg(test)]
+mod tests;
