@@ -20,7 +20,7 @@ makes_of build calls old new all ran fresh joined whole =
     let in_all = one_history (plan_of build old.opening) old.caller ran.made new.seen all chain joined whole in
     record { made = ran.made; same = ran.same; chain = in_all.0; own_acts = in_all.1 }
 
-joined_makes : (build : Build) (opening : Queue) (h : ℕ) (history : List Deed) (calls : List (Call × Answer)) → Joined build opening h history calls → Makes (plan_of build opening) h history calls
+pub joined_makes : (build : Build) (opening : Queue) (h : ℕ) (history : List Deed) (calls : List (Call × Answer)) → Joined build opening h history calls → Makes (plan_of build opening) h history calls
 joined_makes build opening h history calls j =
     let fresh : own j.old.caller j.old.seen ≡ [] = ap (λ (k : ℕ). own k j.old.seen) j.caller ∙ j.fresh in
     let whole : own j.old.caller history ≡ own j.old.caller j.new.seen = ap (λ (k : ℕ). own k history) j.caller ∙ j.whole ∙ sym (ap (λ (k : ℕ). own k j.new.seen) j.caller) in
@@ -30,8 +30,8 @@ joined_makes build opening h history calls j =
 
 pub closed_played : (q : ℕ) (stories : List Story) (build : Build) (opening : Queue) (history : List Deed) → IsClosed q stories build opening history → IsPlayed q stories (record { plan = plan_of build opening; history = history })
 closed_played q stories build opening history closed = record {
-  legal = closed.legal;
-  callers = closed.callers;
-  makes = λ i s there. joined_makes build opening (i + 1) history _ (closed.passes i s there);
+  legal = closed.gathered.legal;
+  callers = closed.gathered.callers;
+  makes = λ i s there. joined_makes build opening (i + 1) history _ (closed.gathered.passes i s there);
   rests = closed.rests;
 }

@@ -17,10 +17,7 @@ use Rattle.queue_model.proofs.Owns.{changed_in}
 use Rattle.queue_model.proofs.RowFacts.{row_elsewhere}
 use Rattle.acts_core.specs.Asked.{touches, or_else, last_on}
 use Rattle.account_core.specs.Last.{leads_to}
-
--- a row is in one state
-one_state : (q : Queue) (r : ℕ) (s t : RowState) → IsIn q r s → IsIn q r t → s ≡ t
-one_state q r s t p u = let found = p.1 in let again = u.1 in let state = p.2 in let other = u.2 in cc
+use Rattle.account_core.proofs.Once.{one_state}
 
 -- over a change of row s
 over : (q : Queue) (s r : ℕ) (f : Row → Row) (x : Row) (t u : RowState) → ((z : Row) → (f z).number ≡ z.number) → ((z : Row) → (f z).state ≡ t) → row_at q s ≡ Some x → IsIn (changed q s f) r u

@@ -32,8 +32,12 @@ SameTarget None None = Unit {0}
 SameTarget (Some s) (Some t) = (t.deliveries ≡ s.deliveries) × (t.limit ≡ s.limit)
 SameTarget s t = ⊥
 
--- Each actor has the targets of the consumers that its lines name, as they were, and leaves them as it had them last; the
--- others stay.
+-- the same targets, of all consumers
+abbrev pub SameSeats : Seats → Seats → Type 0
+SameSeats a b = (c : ℕ) → SameTarget (seat_at a c) (seat_at b c)
+
+-- Each actor has the targets of the consumers that its lines name, as they were, and leaves them as it had them last;
+-- the others stay.
 pub record SeatsGo (seats : Seats) (stories : List Story) (seats' : Seats) : Type 0 where
   pub taken : (c i : ℕ) (s : Story) → Uses c stories i s → SameTarget (seat_at seats c) (seat_at s.seats c)
   pub given : (c i : ℕ) (s : Story) → Uses c stories i s → SameTarget (seat_at s.end.seats c) (seat_at seats' c)

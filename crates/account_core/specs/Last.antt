@@ -24,4 +24,5 @@ leads_to h a = None
 -- A row that is not available is as it was, and nobody touched it; or some caller's last act on it led to its state.
 abbrev pub LastTouch : Type 0
 LastTouch = (o : Queue) (ds : List Deed) (r : ℕ) (s : RowState) → Legal o ds → IsIn (after o ds) r s → s ≢ Available
-    → (IsIn o r s × ((k : ℕ) → last_on r (own k ds) ≡ None)) ⊎ ((k : ℕ) × (a : Act) × (last_on r (own k ds) ≡ Some a) × (leads_to k a ≡ Some s))
+    → (IsIn o r s × ((k : ℕ) → last_on r (own k ds) ≡ None))
+    ⊎ ((k : ℕ) × (a : Act) × (last_on r (own k ds) ≡ Some a) × (leads_to k a ≡ Some s))

@@ -49,15 +49,17 @@ DequeuedOnce =
 
 -- Deliveries
 
--- The number that a take answers is one more than the count of the row that it got, as it was just before: so it counts the
--- deliveries of the row, whatever happened to it between two of them.
+-- The number that a take answers is one more than the count of the row that it got, as it was just before: so it
+-- counts the deliveries of the row, whatever happened to it between two of them.
 abbrev pub GotCounts : Type 0
 GotCounts =
-    (defs : List Defined) (s s' : Standing) (c id n : ℕ) (dids : List Did) (q k r l h : ℕ) (load : Load) (o : Queue) (bells : Bool) (s0 s1 : List Deed)
+    (defs : List Defined) (s s' : Standing) (c id n : ℕ) (dids : List Did) (q k r l h : ℕ) (load : Load)
+    (o : Queue) (bells : Bool) (s0 s1 : List Deed)
     → LineFits defs s (Take c) (Got id n) dids s'
     → dids ≡ On q (CallNext k) (IsGot r l load) ∷ []
     → Meets (record { opening = o; kind = Listed; bells = bells }) h s0 s1 (CallNext k) (IsGot r l load)
-    → (m : List Deed) × JustBefore s0 s1 (deed h (Acq r)) m × ((x : Row) × (row_at (after o m) r ≡ Some x) × (x.slip.id ≡ id) × (n ≡ number_after x.count))
+    → (m : List Deed) × JustBefore s0 s1 (deed h (Acq r)) m
+    × ((x : Row) × (row_at (after o m) r ≡ Some x) × (x.slip.id ≡ id) × (n ≡ number_after x.count))
 
 -- what of an entry its holder can't change but by deliveries: its slip, its content and how often it was delivered
 abbrev pub goods : Row → (Slip × List ℕ) × ℕ
@@ -91,7 +93,8 @@ AccountTold =
 -- a run goes on by a phase that opens with what the one before it handed on
 abbrev pub PhasesAppend : Type 0
 PhasesAppend =
-    (defs : List Defined) (rows : List (List Row)) (seats mid seats' : Seats) (phases : List Actors) (accounts : List Account) (actors : Actors) (a : Account)
+    (defs : List Defined) (rows : List (List Row)) (seats mid seats' : Seats) (phases : List Actors)
+    (accounts : List Account) (actors : Actors) (a : Account)
     → ArePhases defs rows seats phases accounts mid → IsPhase defs (rows_after rows accounts) actors a mid seats'
     → ArePhases defs rows seats (phases ++ actors ∷ []) (accounts ++ a ∷ []) seats'
 
@@ -105,4 +108,5 @@ TextAppend =
 abbrev pub ClosedPlayed : Type 0
 ClosedPlayed =
     (q : ℕ) (stories : List Story) (build : Build) (opening : Queue) (history : List Deed)
-    → IsClosed q stories build opening history → IsPlayed q stories (record { plan = plan_of build opening; history = history })
+    → IsClosed q stories build opening history
+    → IsPlayed q stories (record { plan = plan_of build opening; history = history })

@@ -7,5 +7,7 @@ pub mod Phases
 pub mod Runs
 pub mod Served
 pub mod Last
+pub mod Counting
+pub mod Settling
 pub mod Laws
 pub mod TwoPhases

@@ -15,9 +15,10 @@ AllOpen [] [] [] = Unit {0}
 AllOpen (def ∷ defs) (rows ∷ others) (p ∷ queues) = Opens def rows p.plan × AllOpen defs others queues
 AllOpen defs rows queues = ⊥
 
--- The account of a phase of these actors' lines, whose queues began with these rows, and in which the targets went from these
--- to those.
-pub record IsPhase (defs : List Defined) (rows : List (List Row)) (actors : Actors) (a : Account) (seats seats' : Seats) : Type 0 where
+-- The account of a phase of these actors' lines, whose queues began with these rows, and in which the targets went
+-- from these to those.
+pub record IsPhase (defs : List Defined) (rows : List (List Row)) (actors : Actors) (a : Account)
+    (seats seats' : Seats) : Type 0 where
   pub lines : map (λ s. (s.name, s.ops)) a.stories ≡ actors
   pub opens : AllOpen defs rows a.queues
   pub stories : (i : ℕ) (s : Story) → slice_get a.stories i ≡ Some s → IsStory defs s
@@ -28,7 +29,8 @@ pub record IsPhase (defs : List Defined) (rows : List (List Row)) (actors : Acto
 abbrev pub ArePhases : List Defined → List (List Row) → Seats → List Actors → List Account → Seats → Type 0
 ArePhases defs rows seats [] [] seats' = seats' ≡ seats
 ArePhases defs rows seats (actors ∷ phases) (a ∷ accounts) seats' =
-    (mid : Seats) × IsPhase defs rows actors a seats mid × ArePhases defs (map handed_on a.queues) mid phases accounts seats'
+    (mid : Seats) × IsPhase defs rows actors a seats mid
+    × ArePhases defs (map handed_on a.queues) mid phases accounts seats'
 ArePhases defs rows seats phases accounts seats' = ⊥
 
 -- no rows for each queue: how a run begins

@@ -28,25 +28,27 @@ pub record IsByActor (n : ℕ) (d : Deed) : Type 0 where
   pub first : 0 < d.caller
   pub last : d.caller ≤ n
 
--- caller h made these calls, in this order, each with its meaning between two beginnings of the history; and its acts there are
--- those of the calls, each once and in order
+-- caller h made these calls, in this order, each with its meaning between two beginnings of the history; and its acts
+-- there are those of the calls, each once and in order
 pub record Makes (p : Plan) (h : ℕ) (history : List Deed) (calls : List (Call × Answer)) : Type 0 where
   pub made : List Made
   pub same : map (λ m. (m.call, m.answer)) made ≡ calls
   pub chain : Chain p h [] made history
   pub own_acts : own h history ≡ deeds_of h (acts_in p made)
 
--- Queue q in a phase of these stories: one legal history, in which each actor made the calls of its lines and did nothing else,
--- and nobody else did anything; and no row is left locked or dequeued.
+-- Queue q in a phase of these stories: one legal history, in which each actor made the calls of its lines and did
+-- nothing else, and nobody else did anything; and no row is left locked or dequeued.
 pub record IsPlayed (q : ℕ) (stories : List Story) (p : Played) : Type 0 where
   pub legal : Legal p.plan.opening p.history
   pub callers : AllByRecursion (IsByActor (length stories)) p.history
-  pub makes : (i : ℕ) (s : Story) → slice_get stories i ≡ Some s → Makes p.plan (i + 1) p.history (calls_on q (calls_of s))
+  pub makes : (i : ℕ) (s : Story) → slice_get stories i ≡ Some s
+      → Makes p.plan (i + 1) p.history (calls_on q (calls_of s))
   pub rests : (r : ℕ) (x : Row) → row_at (rest_of p) r ≡ Some x → Rests x.state
 
--- An actor's pass of a queue, before its first call and after its last one: it began with no act of its own, and when it was
--- joined it had seen all of them.
-pub record Joined (build : Build) (opening : Queue) (h : ℕ) (history : List Deed) (calls : List (Call × Answer)) : Type 0 where
+-- An actor's pass of a queue, before its first call and after its last one: it began with no act of its own, and when
+-- it was joined it had seen all of them.
+pub record Joined (build : Build) (opening : Queue) (h : ℕ) (history : List Deed) (calls : List (Call × Answer)) :
+    Type 0 where
   pub old : Sight
   pub new : Sight
   pub opens : old.opening ≡ opening
@@ -56,10 +58,16 @@ pub record Joined (build : Build) (opening : Queue) (h : ℕ) (history : List De
   pub joined : IsPrefix new.seen history
   pub whole : own h history ≡ own h new.seen
 
--- the queue when it was closed: its boss had seen one legal history, in which the actors alone have acts, and no row is left
--- locked or dequeued; and each actor's pass was joined
-pub record IsClosed (q : ℕ) (stories : List Story) (build : Build) (opening : Queue) (history : List Deed) : Type 0 where
+-- the queue when all passes were joined: its boss had seen one legal history, in which the actors alone have acts
+pub record IsGathered (q : ℕ) (stories : List Story) (build : Build) (opening : Queue) (history : List Deed) :
+    Type 0 where
   pub legal : Legal opening history
   pub callers : AllByRecursion (IsByActor (length stories)) history
-  pub passes : (i : ℕ) (s : Story) → slice_get stories i ≡ Some s → Joined build opening (i + 1) history (calls_on q (calls_of s))
+  pub passes : (i : ℕ) (s : Story) → slice_get stories i ≡ Some s
+      → Joined build opening (i + 1) history (calls_on q (calls_of s))
+
+-- the queue when it was closed: all passes were joined, and no row is left locked or dequeued
+pub record IsClosed (q : ℕ) (stories : List Story) (build : Build) (opening : Queue) (history : List Deed) :
+    Type 0 where
+  pub gathered : IsGathered q stories build opening history
   pub rests : (r : ℕ) (x : Row) → row_at (after opening history) r ≡ Some x → Rests x.state

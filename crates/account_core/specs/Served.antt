@@ -26,7 +26,8 @@ abbrev pub Grew : ℕ → ℕ → Option Seat → Option Seat → Type 0
 Grew c n old None = Unit {0}
 Grew c n None (Some t) = ⊥
 Grew c n (Some s) (Some t) =
-    (ds : List Delivery) × (t.deliveries ≡ s.deliveries ++ ds) × (length ds ≡ n) × AllByRecursion (λ d. d.consumer ≡ c) ds × (t.limit ≡ s.limit)
+    (ds : List Delivery) × (t.deliveries ≡ s.deliveries ++ ds) × (length ds ≡ n)
+    × AllByRecursion (λ d. d.consumer ≡ c) ds × (t.limit ≡ s.limit)
 
 -- each target has grown by one delivery for each take of its consumer that got something
 abbrev pub StoryServes : Type 0

@@ -6,7 +6,8 @@ use Rattle.report_core.specs.declared.answers.Answer.{Answer}
 use Rattle.target_core.specs.Seats.{Seats}
 use Rattle.line_core.specs.Fits.{Did, Standing, LinesFit, unlocks}
 
--- an actor's lines and answers, and the calls of its lines; its targets before them, and how it stood after the last one
+-- an actor's lines and answers, and the calls of its lines; its targets before them, and how it stood after the last
+-- one
 pub record Story : Type 0 where
   pub name : List ℕ
   pub ops : List Op

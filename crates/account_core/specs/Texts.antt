@@ -42,12 +42,14 @@ resting_in p = map resting (entries_of (rest_of p))
 
 -- each queue with its entries, in order
 abbrev pub queues_text : List (List ℕ) → List Defined → List Played → List ℕ
-queues_text actors (def ∷ defs) (p ∷ queues) = queue_lines actors def.name (resting_in p) ++ queues_text actors defs queues
+queues_text actors (def ∷ defs) (p ∷ queues) =
+    queue_lines actors def.name (resting_in p) ++ queues_text actors defs queues
 queues_text actors defs queues = []
 
 -- the text of a phase: each actor's lines, and then what the queues hold
 abbrev pub account_text : List Defined → Account → List ℕ
-account_text defs a = flat_map (story_text defs a.stories) a.stories ++ queues_text (actor_names a.stories) defs a.queues
+account_text defs a =
+    flat_map (story_text defs a.stories) a.stories ++ queues_text (actor_names a.stories) defs a.queues
 
 -- and that of a run
 abbrev pub run_text : List Defined → List Account → List ℕ
@@ -57,10 +59,13 @@ run_text defs accounts = flat_map (account_text defs) accounts
 
 abbrev pub LogsTell : List Log → List Story → Type 0
 LogsTell [] [] = Unit {0}
-LogsTell (log ∷ logs) (s ∷ stories) = (log.name ≡ s.name) × (log.lines.items ≡ told s.ops s.answers) × LogsTell logs stories
+LogsTell (log ∷ logs) (s ∷ stories) =
+    (log.name ≡ s.name) × (log.lines.items ≡ told s.ops s.answers)
+    × LogsTell logs stories
 LogsTell logs stories = ⊥
 
 abbrev pub RestsTell : List Rest → List Defined → List Played → Type 0
 RestsTell [] [] [] = Unit {0}
-RestsTell (rest ∷ rests) (def ∷ defs) (p ∷ queues) = (rest.name ≡ def.name) × (rest.entries.items ≡ resting_in p) × RestsTell rests defs queues
+RestsTell (rest ∷ rests) (def ∷ defs) (p ∷ queues) =
+    (rest.name ≡ def.name) × (rest.entries.items ≡ resting_in p) × RestsTell rests defs queues
 RestsTell rests defs queues = ⊥

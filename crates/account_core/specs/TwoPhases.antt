@@ -30,7 +30,12 @@ abbrev pub consumer_c : ConsumerDef
 consumer_c = record { name = codes "c"; actor = codes "a"; number = 0; selector = None }
 
 abbrev pub queue_q : Defined
-queue_q = record { name = codes "q"; kind = Standard; limits = record { policy = policy.None; entries = None; bytes = None }; consumers = consumer_c ∷ [] }
+queue_q = record {
+  name = codes "q";
+  kind = Standard;
+  limits = record { policy = policy.None; entries = None; bytes = None };
+  consumers = consumer_c ∷ [];
+}
 
 abbrev pub one_queue : List Defined
 one_queue = queue_q ∷ []
@@ -61,9 +66,11 @@ leaves n ds = record { hands = in_hands 0 0 (delivered n load) ∷ []; seats = s
 abbrev pub first : Story
 first = record {
   name = codes "a";
-  ops = record { line = 2; actor = codes "a"; what = Put 0 message } ∷ (record { line = 3; actor = codes "a"; what = Take 0 } ∷ []);
+  ops = record { line = 2; actor = codes "a"; what = Put 0 message }
+      ∷ (record { line = 3; actor = codes "a"; what = Take 0 } ∷ []);
   answers = say.Accepted 7 false nothing_dropped ∷ (say.Got 7 1 ∷ []);
-  dids = On 0 (CallReserve 16) (IsDepth (record { entries = 0; bytes = 0 })) ∷ (On 0 (CallPut slip load) (IsAt 0 None) ∷ (On 0 (CallNext 0) (IsGot 0 0 load) ∷ []));
+  dids = On 0 (CallReserve 16) (IsDepth (record { entries = 0; bytes = 0 }))
+      ∷ (On 0 (CallPut slip load) (IsAt 0 None) ∷ (On 0 (CallNext 0) (IsGot 0 0 load) ∷ []));
   seats = seat 1 [];
   end = leaves 1 (delivery 1 ∷ []);
 }
@@ -86,7 +93,8 @@ second = record {
 }
 
 abbrev pub carried_row : Row
-carried_row = record { number = 0; slip = slip; state = Available; content = content message; origin = 0 ∷ []; count = 1 }
+carried_row =
+    record { number = 0; slip = slip; state = Available; content = content message; origin = 0 ∷ []; count = 1 }
 
 abbrev pub played_second : Played
 played_second = record {
@@ -95,12 +103,19 @@ played_second = record {
 }
 
 abbrev pub accounts : List Account
-accounts = record { queues = played_first ∷ []; stories = first ∷ [] } ∷ (record { queues = played_second ∷ []; stories = second ∷ [] } ∷ [])
+accounts =
+    record { queues = played_first ∷ []; stories = first ∷ [] }
+    ∷ (record { queues = played_second ∷ []; stories = second ∷ [] } ∷ [])
 
 -- what is written
 abbrev pub TwoPhasesText : Type 0
-TwoPhasesText = run_text one_queue accounts ≡ codes "a 2 ok 7\na 3 got 7 1\nqueue q 1 16\nentry 7 held a\na 5 got 7 2\nqueue q 1 16\nentry 7 held a\n"
+TwoPhasesText =
+    run_text one_queue accounts
+    ≡ codes "a 2 ok 7\na 3 got 7 1\nqueue q 1 16\nentry 7 held a\na 5 got 7 2\nqueue q 1 16\nentry 7 held a\n"
 
 -- they are accounts of the two phases
 abbrev pub TwoPhasesRuns : Type 0
-TwoPhasesRuns = ArePhases one_queue (nothing one_queue) (seat 0 []) (((codes "a", first.ops) ∷ []) ∷ (((codes "a", second.ops) ∷ []) ∷ [])) accounts (seat 0 (delivery 1 ∷ (delivery 2 ∷ [])))
+TwoPhasesRuns = ArePhases
+    one_queue (nothing one_queue) (seat 0 [])
+    (((codes "a", first.ops) ∷ []) ∷ (((codes "a", second.ops) ∷ []) ∷ [])) accounts
+    (seat 0 (delivery 1 ∷ (delivery 2 ∷ [])))

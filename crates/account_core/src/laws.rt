@@ -3,6 +3,7 @@ ghost use Rattle.account_core.specs.Laws.{AccountTold, CarryFrees, CarryKeeps, C
 ghost use Rattle.account_core.specs.Last.{LastTouch};
 ghost use Rattle.account_core.specs.Runs.{NoneRan};
 ghost use Rattle.account_core.specs.Served.{StoryServes};
+ghost use Rattle.account_core.specs.Settling.{HandsOnCount, OpensCount, RowsCount, Settles, StatesNamed};
 ghost use Rattle.account_core.specs.TwoPhases.{TwoPhasesRuns, TwoPhasesText};
 
 /// What no history has: an entry with two holders, or one that is dequeued twice; and how a row came into its state.
@@ -33,6 +34,23 @@ pub fn targets()
 /// What the passes of a queue tell of its phase, when they were joined and it was closed.
 pub fn queues()
     ensures { ClosedPlayed }
+{}
+
+/// How many rows of some ids a queue opens with, has when all passes were joined, and hands on.
+pub fn counts()
+    ensures opens { OpensCount }
+    ensures rows { RowsCount }
+    ensures hands_on { HandsOnCount }
+{}
+
+/// What holds of each row of a queue when all passes were joined.
+pub fn rests()
+    ensures { Settles }
+{}
+
+/// What is told of a phase can be printed.
+pub fn names()
+    ensures { StatesNamed }
 {}
 
 /// Phases, one after the other.

@@ -90,6 +90,7 @@ known s = after s.opening s.seen
 abbrev pub on_head : ℕ → Step → Bool
 on_head l (steps.Load (names.Link (nodes.Head m))) = m == l
 on_head l (steps.Link r (nodes.Head m)) = m == l
+on_head l (steps.Unlink (nodes.Head m) from to) = m == l
 on_head l s = false
 
 -- the step is on the state word of row r

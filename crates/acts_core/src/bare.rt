@@ -117,7 +117,8 @@ pub trait BareCore<C: Freight>: Drop {
     /// not deleted.
     fn bare_into_rest(self) -> Vec<RestEntry<C>>
         requires rest { AtRest (keeps self) }
-        ensures rest { (q : Queue) → Stands (keeps self) q → AreRests kind_of q (map (left_of C.goods) result.items) };
+        ensures rest { (q : Queue) → Stands (keeps self) q
+            → AreRests kind_of q (map (left_of C.goods) result.items) };
 
     /// It is a kind of held queue.
     ghost is_held: { IsHeldKind kind_of };

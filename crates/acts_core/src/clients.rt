@@ -21,13 +21,14 @@ pub fn put_in<C: Cargo, Q: SharedQueue<C>>(
 ) -> Placed<C>
     requires serves { Q.serves queue.now pass.old }
     requires allowed { 0 < (Q.sight pass.old).allowance }
-    requires fits { FitsQueue (known (Q.sight pass.old)).lists (known (Q.sight pass.old)).consumers slip }
+    requires fits { FitsQueue (known (Q.sight pass.old)).lists
+        (known (Q.sight pass.old)).consumers slip }
     requires key { KeyFits (Q.build queue.now).kind slip.key }
     requires id { slip.id ≡ (C.load cargo).id }
     requires size { slip.size ≡ (C.load cargo).size }
     ensures serves { Q.serves queue.now pass.new }
-    ensures puts { PutsIn (Q.build queue.now) (Q.sight pass.old) (Q.sight pass.new) slip (C.load cargo)
-        (of_put C.load result) }
+    ensures puts { PutsIn (Q.build queue.now) (Q.sight pass.old) (Q.sight pass.new)
+        slip (C.load cargo) (of_put C.load result) }
 {
     queue.reserve(pass, slip.size);
     queue.put(pass, slip, cargo)
@@ -42,7 +43,8 @@ pub fn take_out<C: Cargo, Q: SharedQueue<C>>(
     requires serves { Q.serves queue.now pass.old }
     requires consumer { Mem consumer (Q.sight pass.old).consumers }
     ensures serves { Q.serves queue.now pass.new }
-    ensures takes { TakesOut (Q.build queue.now) (Q.sight pass.old) (Q.sight pass.new) consumer result }
+    ensures takes { TakesOut (Q.build queue.now) (Q.sight pass.old) (Q.sight pass.new)
+        consumer result }
 {
     match queue.next(pass, consumer) {
         Next::Got { row, cargo } => {
@@ -60,7 +62,8 @@ pub fn leave_two<C: Cargo, Q: SharedQueue<C>>(queue: &Q, pass: &mut Q::Pass, con
     requires serves { Q.serves queue.now pass.old }
     requires consumer { Mem consumer (Q.sight pass.old).consumers }
     ensures serves { Q.serves queue.now pass.new }
-    ensures leaves { LeavesTwo (Q.build queue.now) (Q.sight pass.old) (Q.sight pass.new) consumer result }
+    ensures leaves { LeavesTwo (Q.build queue.now) (Q.sight pass.old) (Q.sight pass.new)
+        consumer result }
 {
     match queue.next(pass, consumer) {
         Next::Got {

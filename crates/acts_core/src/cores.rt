@@ -118,7 +118,8 @@ pub trait QueueCore<C: Cargo>: Send + Drop {
     /// not deleted.
     fn into_rest(self) -> Vec<RestEntry<C>>
         requires rest { AtRest (kept self) }
-        ensures rest { (q : Queue) → Stands (kept self) q → AreRests kind q (map (left_of C.load) result.items) };
+        ensures rest { (q : Queue) → Stands (kept self) q
+            → AreRests kind q (map (left_of C.load) result.items) };
 
     /// It is a kind of held queue.
     ghost held: { IsHeldKind kind };

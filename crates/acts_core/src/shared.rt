@@ -37,7 +37,8 @@ pub trait SharedQueue<C: Cargo>: Sync {
     fn depth(&self, pass: &mut Self::Pass) -> Depth
         requires serves { serves self.now pass.old }
         ensures serves { serves self.now pass.new }
-        ensures called { Called (build self.now) (sight pass.old) (sight pass.new) CallDepth (IsDepth result) };
+        ensures called { Called (build self.now) (sight pass.old) (sight pass.new)
+            CallDepth (IsDepth result) };
 
     /// Reserves an entry of this size, and answers the depth just before. The pass may reserve one less
     /// then.
@@ -46,21 +47,25 @@ pub trait SharedQueue<C: Cargo>: Sync {
         requires size { size ≤ most_bytes }
         requires allowed { 0 < (sight pass.old).allowance }
         ensures serves { serves self.now pass.new }
-        ensures called { Called (build self.now) (sight pass.old) (sight pass.new) (CallReserve size) (IsDepth result) };
+        ensures called { Called (build self.now) (sight pass.old) (sight pass.new)
+            (CallReserve size) (IsDepth result) };
 
     /// Gives a reserved entry of this size back. The pass may reserve one more then.
     fn give_back(&self, pass: &mut Self::Pass, size: u64)
         requires serves { serves self.now pass.old }
-        requires reserved { CanGive (reserved_by (known (sight pass.old)) (sight pass.old).caller) size }
+        requires reserved { CanGive
+            (reserved_by (known (sight pass.old)) (sight pass.old).caller) size }
         ensures serves { serves self.now pass.new }
-        ensures called { Called (build self.now) (sight pass.old) (sight pass.new) (CallGiveBack size) IsDone };
+        ensures called { Called (build self.now) (sight pass.old) (sight pass.new)
+            (CallGiveBack size) IsDone };
 
     /// Puts an entry, in place of a reserved one of its size, at the end of its list. It is `Spent` exactly
     /// where the pass has no row left to draw. On a last-value queue the older entry of the key, if one is
     /// available, is displaced: the caller holds it then.
     fn put(&self, pass: &mut Self::Pass, slip: Slip, cargo: C) -> Placed<C>
         requires serves { serves self.now pass.old }
-        requires may { MayPut (build self.now).kind (known (sight pass.old)) (sight pass.old).caller slip (C.load cargo) }
+        requires may { MayPut (build self.now).kind (known (sight pass.old)) (sight pass.old).caller
+            slip (C.load cargo) }
         ensures serves { serves self.now pass.new }
         ensures called { Called (build self.now) (sight pass.old) (sight pass.new)
             (CallPut slip (C.load cargo)) (of_put C.load result) };
@@ -88,7 +93,8 @@ pub trait SharedQueue<C: Cargo>: Sync {
     fn find(&self, pass: &mut Self::Pass, id: u64) -> Option<u64>
         requires serves { serves self.now pass.old }
         ensures serves { serves self.now pass.new }
-        ensures called { Called (build self.now) (sight pass.old) (sight pass.new) (CallFind id) (IsFound result) };
+        ensures called { Called (build self.now) (sight pass.old) (sight pass.new)
+            (CallFind id) (IsFound result) };
 
     /// Locks a row again that the caller had left. It is `Stolen` exactly where the row is no longer the
     /// caller's.
@@ -96,21 +102,25 @@ pub trait SharedQueue<C: Cargo>: Sync {
         requires serves { serves self.now pass.old }
         requires left { HasLeft (sight pass.old).caller row (sight pass.old).seen }
         ensures serves { serves self.now pass.new }
-        ensures called { Called (build self.now) (sight pass.old) (sight pass.new) (CallLock row) (of_lock C.load result) };
+        ensures called { Called (build self.now) (sight pass.old) (sight pass.new)
+            (CallLock row) (of_lock C.load result) };
 
     /// Leaves a held row, with its cargo: the caller may lock it again, and anyone may steal it.
     fn unlock(&self, pass: &mut Self::Pass, row: u64, cargo: C)
         requires serves { serves self.now pass.old }
-        requires handed { Handed (known (sight pass.old)) (sight pass.old).caller row (C.load cargo) }
+        requires handed { Handed (known (sight pass.old)) (sight pass.old).caller
+            row (C.load cargo) }
         ensures serves { serves self.now pass.new }
-        ensures called { Called (build self.now) (sight pass.old) (sight pass.new) (CallUnlock row (C.load cargo)) IsDone };
+        ensures called { Called (build self.now) (sight pass.old) (sight pass.new)
+            (CallUnlock row (C.load cargo)) IsDone };
 
     /// Makes a held row available again, with its cargo, and rings the bells of the consumers that want it.
     /// It is `Outdated` only on a last-value queue, and exactly where a later row of the same key has ever
     /// come: then the row stays held.
     fn release(&self, pass: &mut Self::Pass, row: u64, cargo: C) -> Releasing<C>
         requires serves { serves self.now pass.old }
-        requires handed { Handed (known (sight pass.old)) (sight pass.old).caller row (C.load cargo) }
+        requires handed { Handed (known (sight pass.old)) (sight pass.old).caller
+            row (C.load cargo) }
         ensures serves { serves self.now pass.new }
         ensures called { (mask : ℕ) × Called (build self.now) (sight pass.old) (sight pass.new)
             (CallRelease row (C.load cargo)) (of_release C.load mask result) };
@@ -121,7 +131,8 @@ pub trait SharedQueue<C: Cargo>: Sync {
         requires serves { serves self.now pass.old }
         requires row { Has (known (sight pass.old)) row }
         ensures serves { serves self.now pass.new }
-        ensures called { Called (build self.now) (sight pass.old) (sight pass.new) (CallSteal row) (of_steal C.load result) };
+        ensures called { Called (build self.now) (sight pass.old) (sight pass.new)
+            (CallSteal row) (of_steal C.load result) };
 
     /// Takes a held row out of the queue. The pass may reserve one more then.
     fn dequeue(&self, pass: &mut Self::Pass, row: u64)
@@ -136,8 +147,10 @@ pub trait SharedQueue<C: Cargo>: Sync {
         requires serves { serves self.now pass.old }
         requires dequeued { HasDequeued (sight pass.old).caller row (sight pass.old).seen }
         ensures serves { serves self.now pass.new }
-        ensures called { Called (build self.now) (sight pass.old) (sight pass.new) (CallDelete row) IsDone };
+        ensures called { Called (build self.now) (sight pass.old) (sight pass.new)
+            (CallDelete row) IsDone };
 
     /// What holds of each pass of the queue.
-    ghost opens: { (queue : Self) (pass : Self.Pass) → serves queue pass → IsSightOf (build queue) (sight pass) };
+    ghost opens: { (queue : Self) (pass : Self.Pass) → serves queue pass
+        → IsSightOf (build queue) (sight pass) };
 }

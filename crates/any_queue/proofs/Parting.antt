@@ -1,5 +1,5 @@
 -- passes that a table made, split off and joined, as queues of all kinds show them
-use Rattle.std.proofs.Common.{◌≡◌, ℕ, ◌+◌, ◌<◌, List, [], ◌∷◌, ◌++◌, sym, ap, ◌∙◌, subst, append-nil, ⊎_elim}
+use Rattle.std.proofs.Common.{◌≡◌, ℕ, suc, ◌+◌, ◌<◌, List, [], ◌∷◌, ◌++◌, sym, ap, ◌∙◌, subst, arith, append-nil, ⊎_elim}
 use mathlib.Core.List.{Mem, mem-cons_of_mem, mem-cons_self}
 use Rattle.queue_model.specs.declared.deeds.Deed.{Deed}
 use Rattle.queue_model.specs.declared.rows.Slip.{Slip}
@@ -16,7 +16,7 @@ use Rattle.entry_table.specs.Sights.{sight, build_of}
 use Rattle.entry_table.specs.Starting.{IsMade}
 use Rattle.entry_table.specs.Views.{Has, caller_of, rest_of}
 use Rattle.entry_table.proofs.Concerning.{in_has}
-use Rattle.entry_table.proofs.Sighting.{mem_in}
+use Rattle.entry_table.proofs.Sighting.{mem_in, others_stay}
 use Rattle.entry_table.proofs.Serving.{sight_boss, sight_made, sight_joined}
 use Rattle.any_queue.specs.Parting.{IsFresh, MayPart, IsSplit, IsJoined, IsLast}
 
@@ -41,6 +41,13 @@ own_same k s0 s1 e = e ∙ append-nil (own k s0)
 own_none : (p : Pass) (s1 : List Deed) → Steps (opening p) (caller_of (callers p)) (callers p) (view p).consumers (seen p) s1 [] → own p.caller s1 ≡ own p.caller (seen p)
 own_none p s1 t = subst (λ (h : ℕ). own h s1 ≡ own h (seen p)) (ap caller_of p.speaks) (own_same (caller_of (callers p)) (seen p) s1 t.own_more)
 
+-- nor did those that ended before it
+idle_ended : (p : Pass) (s1 : List Deed) → Steps (opening p) (caller_of (callers p)) (callers p) (view p).consumers (seen p) s1 []
+    → (k : ℕ) → Mem k (sight p).ended → own k s1 ≡ own k (seen p)
+idle_ended p s1 t k m =
+    let within : Mem k (callers p) = subst (Mem k) (sym p.speaks) (mem-cons_of_mem p.caller m) in
+    others_stay (callers p) (view p).consumers (suc k) k (seen p) s1 [] (mem_in k (callers p) within) (λ e. omega (arith, e)) t.concern_more
+
 pub is_fresh : {C : Type 0} (load : C → Load) (lists rows consumed : ℕ) (start : List (Slip × C)) (e : Entries C) (p : Pass) → IsMade load lists rows consumed start e p → IsFresh load lists rows consumed start (build_of e) (sight p)
 is_fresh load lists rows consumed start e p m = record {
   build_is = ap silent_lists m.rows_is;
@@ -64,11 +71,12 @@ is_fresh load lists rows consumed start e p m = record {
   };
 }
 
-pub is_split : (old new made : Pass) (cs : List ℕ) (n : ℕ) → new.caller ≡ old.caller → made.caller ≡ (view old).made → DidSplit (view old) (view new) (view made) cs n → IsSplit (sight old) (sight new) (sight made) cs n
-is_split old new made cs n same number d = record {
+pub is_split : (old new made : Pass) (cs : List ℕ) (n : ℕ) → old.caller ≡ 0 → new.caller ≡ old.caller → made.caller ≡ (view old).made → DidSplit (view old) (view new) (view made) cs n → IsSplit (sight old) (sight new) (sight made) cs n
+is_split old new made cs n boss same number d = record {
   grows = d.went.steps.prefix;
   legal = d.went.steps.legal;
   own_acts = own_none old (seen new) d.went.steps;
+  unmade = d.went.bound (ap caller_of old.speaks ∙ boss);
   boss_is = sight_boss old new made cs n same d;
   new_is = sight_made old new made cs n number d;
 }
@@ -79,6 +87,8 @@ is_joined old gone new same j = record {
   tells = j.gone.prefix;
   legal = j.mine.legal;
   own_acts = own_none old (seen new) j.mine;
+  ended_acts = idle_ended old (seen new) j.mine;
+  unmade = λ boss k high. j.went.bound (ap (λ (hs : List ℕ). caller_of (hs ++ callers gone)) old.speaks ∙ boss) k high;
   gone_acts = λ k m. j.gone.callers k (mem_has k (callers gone) (subst (Mem k) (sym gone.speaks) m));
   sight =
       sight_joined old gone new same old.speaks j

@@ -50,11 +50,13 @@ pub record IsFresh {C : Type 0} (load : C → Load) (lists rows consumers : ℕ)
       }
 
 -- The pass of a new caller was split off the boss's: it takes over these consumers, and so many entries that it may
--- reserve and rows that it may draw. The boss has seen more perhaps, and the new pass has seen what the boss has.
+-- reserve and rows that it may draw. The boss has seen more perhaps, in which callers that were not made have no deed, and
+-- the new pass has seen what the boss has.
 pub record IsSplit (old boss new : Sight) (consumers : List ℕ) (n : ℕ) : Type 0 where
   pub grows : IsPrefix old.seen boss.seen
   pub legal : Legal old.opening boss.seen
   pub own_acts : own old.caller boss.seen ≡ own old.caller old.seen
+  pub unmade : (k : ℕ) → old.made ≤ k → own k boss.seen ≡ []
   pub boss_is :
       boss
       ≡ record old {
@@ -79,12 +81,15 @@ pub record IsSplit (old boss new : Sight) (consumers : List ℕ) (n : ℕ) : Typ
         turns = 0;
       }
 
--- A pass ended, and another has now what it had. What both had seen begins what is seen now, in which neither did more.
+-- A pass ended, and another has now what it had. What both had seen begins what is seen now, in which neither did more;
+-- and where the other is the boss's, callers that were not made have no deed there.
 pub record IsJoined (old gone new : Sight) : Type 0 where
   pub grows : IsPrefix old.seen new.seen
   pub tells : IsPrefix gone.seen new.seen
   pub legal : Legal old.opening new.seen
   pub own_acts : own old.caller new.seen ≡ own old.caller old.seen
+  pub ended_acts : (k : ℕ) → Mem k old.ended → own k new.seen ≡ own k old.seen
+  pub unmade : old.caller ≡ 0 → (k : ℕ) → old.made ≤ k → own k new.seen ≡ []
   pub gone_acts : (k : ℕ) → Mem k (gone.caller ∷ gone.ended) → own k new.seen ≡ own k gone.seen
   pub sight :
       new

@@ -1,4 +1,5 @@
 //! A queue of any kind, its passes, and the calls that every queue offers.
+use crate::deletes::delete_listed;
 use acts_core::{Cargo, Freight, Locking, Next, Placed, Releasing, SharedQueue, Stealing};
 use cursor_core::Cursor;
 use entry_table::{Entries, Pass};
@@ -134,7 +135,7 @@ impl<C: Cargo + Sync> SharedQueue<C> for AnyQueue<C> {
     fn delete(&self, pass: &mut AnyPass, row: u64) {
         match self {
             AnyQueue::Listed(entries) => match pass {
-                AnyPass::Listed(pass) => entry_calls::delete(entries, pass, row),
+                AnyPass::Listed(pass) => delete_listed(entries, pass, row),
             },
         }
     }

@@ -1,5 +1,7 @@
 //! Queues that are made and closed, and their passes, which are split off and joined.
 ghost use Rattle.std.specs.Prelude.{◌≡◌, ◌<◌, ◌≤◌, IfOk, vec_len, map};
+ghost use Rattle.std.specs.List.{AllByRecursion};
+ghost use Rattle.acts_core.specs.Asked.{KeyFits};
 ghost use Rattle.acts_core.specs.Rest.{left_of};
 ghost use Rattle.acts_core.specs.Sight.{Listed};
 ghost use Rattle.defs_read.specs.Slips.{lists_of};
@@ -41,9 +43,11 @@ impl<C: Freight> AnyQueue<C> {
         requires rows { (0 < rows) × (rows ≤ 524288) }
         requires consumers { vec_len def.now.consumers ≤ 64 }
         requires room { vec_len start ≤ rows }
-        requires start { AllMayStart C.goods (lists_of def.now.kind) (vec_len def.now.consumers) start.items }
+        requires start { AllMayStart C.goods (lists_of def.now.kind) (vec_len def.now.consumers)
+            start.items }
         ensures serves { IfOk result (λ r. ServesAny r.0 r.1) }
-        ensures fresh { IfOk result (λ r. IsFresh C.goods (lists_of def.now.kind) rows (vec_len def.now.consumers) start.items (build_in r.0) (sight_in r.1)) }
+        ensures fresh { IfOk result (λ r. IsFresh C.goods (lists_of def.now.kind) rows
+            (vec_len def.now.consumers) start.items (build_in r.0) (sight_in r.1)) }
     {
         match Entries::make(
             alloc,
@@ -63,7 +67,8 @@ impl<C: Freight> AnyQueue<C> {
         requires serves { ServesAny self.now boss.old }
         requires may { MayPart (sight_in boss.old) consumers.now allowance }
         ensures serves { ServesAny self.now boss.new × ServesAny self.now result }
-        ensures split { IsSplit (sight_in boss.old) (sight_in boss.new) (sight_in result) consumers.now allowance }
+        ensures split { IsSplit (sight_in boss.old) (sight_in boss.new) (sight_in result)
+            consumers.now allowance }
     {
         match self {
             AnyQueue::Listed(entries) => match boss {
@@ -91,11 +96,13 @@ impl<C: Freight> AnyQueue<C> {
         }
     }
 
-    /// Takes the queue apart: all its rows that are not deleted, in queue order.
+    /// Takes the queue apart: all its rows that are not deleted, in queue order. On a listed queue they have no keys.
     pub fn close(self, boss: AnyPass) -> Vec<RestEntry<C>>
         requires serves { ServesAny self boss }
         requires last { IsLast (sight_in boss) }
-        ensures { IsClosed (build_in self).kind (sight_in boss) (map (left_of C.goods) result.items) }
+        ensures closed { IsClosed (build_in self).kind (sight_in boss)
+            (map (left_of C.goods) result.items) }
+        ensures keys { AllByRecursion (λ e. KeyFits (build_in self).kind e.slip.key) result.items }
     {
         match self {
             AnyQueue::Listed(entries) => match boss {
@@ -115,7 +122,8 @@ fn split_listed<C: Freight>(
     requires serves { Serves entries.now boss.old }
     requires may { MayPart (sight boss.old) consumers.now allowance }
     ensures serves { Serves entries.now boss.new × Serves entries.now result }
-    ensures split { IsSplit (sight boss.old) (sight boss.new) (sight result) consumers.now allowance }
+    ensures split { IsSplit (sight boss.old) (sight boss.new) (sight result) consumers.now
+        allowance }
 {
     entries.split(boss, consumers, allowance)
 }
@@ -135,7 +143,8 @@ fn join_listed<C: Freight>(entries: &Entries<C>, into: &mut Pass, gone: Pass)
 fn close_listed<C: Freight>(entries: Entries<C>, boss: Pass) -> Vec<RestEntry<C>>
     requires serves { Serves entries boss }
     requires last { IsLast (sight boss) }
-    ensures { IsClosed Listed (sight boss) (map (left_of C.goods) result.items) }
+    ensures closed { IsClosed Listed (sight boss) (map (left_of C.goods) result.items) }
+    ensures keys { AllByRecursion (λ e. KeyFits Listed e.slip.key) result.items }
 {
     entries.close(boss)
 }

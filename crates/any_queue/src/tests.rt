@@ -15,8 +15,8 @@ use std::test::Fail;
 
 /// A message with no bytes.
 #[derive(Debug, Drop)]
-struct Empty {
-    id: u64,
+pub(crate) struct Empty {
+    pub(crate) id: u64,
 }
 
 impl Cargo for Empty {

@@ -8,44 +8,50 @@ use Rattle.broker_top.specs.declared.input.Unread.{Unread}
 use Rattle.broker_top.specs.declared.input.Unread.TheVariants as unread
 use Rattle.broker_top.specs.declared.status.Status.{Status}
 use Rattle.broker_top.specs.declared.status.Status.TheVariants.{InputRefused, NoMemory}
-use Rattle.broker_top.specs.Ends.{Comes, IsRefused, ReadFaults, Refuses, TaskEnds, Tells, TellsRefusal}
+use Rattle.broker_top.specs.Ends.{Comes, IsRefused, IsShort, ReadFaults, Refuses, TaskEnds, Tells, TellsRefusal, WantsMemory}
 use Rattle.broker_top.specs.Faults.{OfScript, fault_text, line_cause, line_text}
 use Rattle.broker_top.specs.Input.{IsTooLarge, LeavesUnread, too_large_text}
-use Rattle.broker_top.specs.Job.{GivesJob, Lines}
+use Rattle.broker_top.specs.Job.{GivesJob, IsRefusedFor, Script}
 use Rattle.broker_top.specs.Unread.{unread_status, unread_text}
-use Rattle.broker_top.specs.Words.{Task}
+use Rattle.broker_top.specs.Words.{Task, run, select}
+use Rattle.broker_top.specs.World.{World, Unserved}
 
-module _ (task : Task) (result : Status) (left left' written written' : Option (List ℕ)) (f f' g g' : ℕ) where
-  pub wants_memory : f' ≡ f → Tells result NoMemory (codes "fault: memory\n") written written' g g' → TaskEnds task result left left' written written' f f' g g'
-  wants_memory kept tells = record { status = NoMemory; text = codes "fault: memory\n"; comes = refl; source = kept; tells = tells }
+-- before anything ran
+wants : (task : Task) (text : List ℕ) (w w' : World) → IsShort text w w' → WantsMemory task text w w'
+wants run text w w' short = inl short
+wants (select selector) text w w' short = short
 
-  pub refusal : (text : List ℕ) → f' ≡ f → IsRefused task text left left' → Tells result InputRefused text written written' g g' → TaskEnds task result left left' written written' f f' g g'
-  refusal text kept refused tells = record { status = InputRefused; text = text; comes = refused; source = kept; tells = tells }
+module _ (task : Task) (result : Status) (w w' : World) (unserved : Unserved w w') where
+  pub wants_memory : w'.read_faults ≡ w.read_faults → Tells result NoMemory (codes "fault: memory\n") w.written w'.written w.write_faults w'.write_faults → TaskEnds task result w w'
+  wants_memory kept tells = record { status = NoMemory; text = codes "fault: memory\n"; comes = wants task (codes "fault: memory\n") w w' (refl, unserved); source = kept; tells = tells }
 
-  unread_comes : (u : Unread) → (IsTooLarge too_large_text left left' → IsRefused task too_large_text left left') → LeavesUnread u left left' f f' → Comes task (unread_status u) (unread_text u) left left'
-  unread_comes unread.TooLarge refused h = refused (record { front = h.1.0; read = h.1.1; large = h.1.2; told = refl })
-  unread_comes unread.Fault refused h = refl
-  unread_comes unread.NoMemory refused h = refl
+  pub refusal : (text : List ℕ) → w'.read_faults ≡ w.read_faults → IsRefused task text w.left w'.left → Tells result InputRefused text w.written w'.written w.write_faults w'.write_faults → TaskEnds task result w w'
+  refusal text kept refused tells = record { status = InputRefused; text = text; comes = (refused, unserved); source = kept; tells = tells }
 
-  unread_faults : (u : Unread) → LeavesUnread u left left' f f' → ReadFaults (unread_status u) f f'
+  unread_comes : (u : Unread) → (IsTooLarge too_large_text w.left w'.left → IsRefused task too_large_text w.left w'.left) → LeavesUnread u w.left w'.left w.read_faults w'.read_faults → Comes task (unread_status u) (unread_text u) w w'
+  unread_comes unread.TooLarge refused h = (refused (record { front = h.1.0; read = h.1.1; large = h.1.2; told = refl }), unserved)
+  unread_comes unread.Fault refused h = (refl, unserved)
+  unread_comes unread.NoMemory refused h = wants task (codes "fault: memory\n") w w' (refl, unserved)
+
+  unread_faults : (u : Unread) → LeavesUnread u w.left w'.left w.read_faults w'.read_faults → ReadFaults (unread_status u) w.read_faults w'.read_faults
   unread_faults unread.TooLarge h = h.0
   unread_faults unread.Fault h = h
   unread_faults unread.NoMemory h = h
 
-  pub unread_ends : (u : Unread) → (IsTooLarge too_large_text left left' → IsRefused task too_large_text left left') → LeavesUnread u left left' f f' → Tells result (unread_status u) (unread_text u) written written' g g'
-      → TaskEnds task result left left' written written' f f' g g'
+  pub unread_ends : (u : Unread) → (IsTooLarge too_large_text w.left w'.left → IsRefused task too_large_text w.left w'.left) → LeavesUnread u w.left w'.left w.read_faults w'.read_faults
+      → Tells result (unread_status u) (unread_text u) w.written w'.written w.write_faults w'.write_faults → TaskEnds task result w w'
   unread_ends u refused h tells = record { status = unread_status u; text = unread_text u; comes = unread_comes u refused h; source = unread_faults u h; tells = tells }
 
-  pub refusal_ends : (text : List ℕ) → f' ≡ f → IsRefused task text left left' → TellsRefusal text result written written' g g' → TaskEnds task result left left' written written' f f' g g'
+  pub refusal_ends : (text : List ℕ) → w'.read_faults ≡ w.read_faults → IsRefused task text w.left w'.left → TellsRefusal text result w.written w'.written w.write_faults w'.write_faults → TaskEnds task result w w'
   refusal_ends text kept refused (inl tells) = refusal text kept refused tells
   refusal_ends text kept refused (inr tells) = wants_memory kept tells
 
-  pub fault_ends : (fault : InputFault) → f' ≡ f → ((fault ≡ input.NoMemory → ⊥) → IsRefused task (fault_text fault) left left') → Refuses fault result written written' g g' → TaskEnds task result left left' written written' f f' g g'
+  pub fault_ends : (fault : InputFault) → w'.read_faults ≡ w.read_faults → ((fault ≡ input.NoMemory → ⊥) → IsRefused task (fault_text fault) w.left w'.left) → Refuses fault result w.written w'.written w.write_faults w'.write_faults → TaskEnds task result w w'
   fault_ends fault kept refused (inl told) = refusal (fault_text fault) kept (refused told.0) told.1
   fault_ends fault kept refused (inr tells) = wants_memory kept tells
 
--- a fault of an input that is no want of memory is what the input says
-pub err_says : (fault : InputFault) (said : Result Lines InputFault) → GivesJob (Err fault) said → (fault ≡ input.NoMemory → ⊥) → said ≡ Err fault
+-- a fault of an input that is no want of memory is that for which it is refused
+pub err_says : (fault : InputFault) (said : Result Script InputFault) → GivesJob (Err fault) said → (fault ≡ input.NoMemory → ⊥) → IsRefusedFor said fault
 err_says (input.Definitions n cause) said h other = h
 err_says (input.Line refused) said h other = h
 err_says (input.NotBuilt n) said h other = h

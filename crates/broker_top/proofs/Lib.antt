@@ -1,6 +1,12 @@
 pub mod Both
-pub mod Runs
-pub mod Simple
 pub mod CommandLines
 pub mod Messages
 pub mod Endings
+pub mod Firsts
+pub mod Putting
+pub mod Phasing
+pub mod Runnable
+pub mod Names
+pub mod OnePhases
+pub mod Stopping
+pub mod Ended

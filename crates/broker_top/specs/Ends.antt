@@ -1,54 +1,80 @@
 -- which status a call ends with, and what it writes
-use Rattle.std.specs.Prelude.{◌≡◌, ℕ, ◌+◌, ◌≤◌, ◌⊎◌, Option, Some, None, List, length, take, codes, Ok, Err}
-use Rattle.queue_model.specs.History.{Legal}
-use Rattle.queue_model.specs.State.{empty}
+use Rattle.std.specs.Prelude.{◌≡◌, ℕ, ◌+◌, ◌≤◌, ◌⊎◌, Option, Some, None, List, ◌++◌, length, take, codes, Ok, Err}
 use Rattle.outside_io.specs.Told.{Adds}
+use Rattle.account_core.specs.Runs.{Ran}
 use Rattle.broker_top.specs.declared.status.Status.{Status}
 use Rattle.broker_top.specs.declared.status.Status.TheVariants.{Done, InputRefused, WordsRefused, ReadFault, WriteFault, NoMemory}
 use Rattle.broker_top.specs.declared.faults.InputFault.{InputFault}
 use Rattle.broker_top.specs.declared.faults.InputFault.TheVariants as input
 use Rattle.broker_top.specs.Faults.{fault_text}
 use Rattle.broker_top.specs.Input.{IsTooLarge, IsWhole}
-use Rattle.broker_top.specs.Job.{Lines, input_says}
-use Rattle.broker_top.specs.Run.{history, run_text, start}
+use Rattle.broker_top.specs.Job.{IsRefusedFor, IsRunnable, Script, input_says}
 use Rattle.broker_top.specs.Select.{IsInputRefused, IsSelected, IsSelectorRefused}
 use Rattle.broker_top.specs.Words.{Task, run, select}
+use Rattle.broker_top.specs.World.{World, Unserved}
 
--- The input was read to its end, and says lines that are run. Their deeds are a legal history of an empty queue, and the text is that of their run.
-pub record IsRun (text : List ℕ) (left left' : Option (List ℕ)) : Type 0 where
+-- Runs
+
+-- The input was read to its end, and says a script that is run. All its phases ran, from empty queues on, and the text is
+-- theirs.
+pub record IsRun (text : List ℕ) (w w' : World) : Type 0 where
   pub input : List ℕ
-  pub whole : IsWhole input left left'
-  pub lines : Lines
-  pub says : input_says input ≡ Ok lines
-  pub legal : Legal (empty 1 0) (history start lines.ops)
-  pub told : text ≡ run_text lines.queue lines.actor lines.ops
+  pub whole : IsWhole input w.left w'.left
+  pub script : Script
+  pub says : input_says input ≡ Ok script
+  pub runs : IsRunnable script
+  pub ran : Ran script.defs script.phases w.seats w'.seats text
+
+-- The input was read to its end, and says a script that is run. Its first phases ran; then this fault came, and the text is
+-- theirs with the fault behind it.
+pub record IsCut (fault text : List ℕ) (w w' : World) : Type 0 where
+  pub input : List ℕ
+  pub whole : IsWhole input w.left w'.left
+  pub script : Script
+  pub says : input_says input ≡ Ok script
+  pub runs : IsRunnable script
+  pub some : ℕ
+  pub front : List ℕ
+  pub ran : Ran script.defs (take some script.phases) w.seats w'.seats front
+  pub told : text ≡ front ++ fault
 
 -- The input was read to its end, and is refused for this cause, which is the first.
 pub record IsLineRefused (text : List ℕ) (left left' : Option (List ℕ)) : Type 0 where
   pub input : List ℕ
   pub whole : IsWhole input left left'
   pub fault : InputFault
-  pub says : input_says input ≡ Err fault
+  pub refused : IsRefusedFor (input_says input) fault
   pub told : text ≡ fault_text fault
 
+-- Tasks
+
 -- the task was done, by what was read, and this is its text
-abbrev pub IsDone : Task → List ℕ → Option (List ℕ) → Option (List ℕ) → Type 0
-IsDone run text left left' = IsRun text left left'
-IsDone (select selector) text left left' = IsSelected selector text left left'
+abbrev pub IsDone : Task → List ℕ → World → World → Type 0
+IsDone run text w w' = IsRun text w w'
+IsDone (select selector) text w w' = IsSelected selector text w.left w'.left × Unserved w w'
 
 -- the task's input is refused, by what was read, and this text tells of it
 abbrev pub IsRefused : Task → List ℕ → Option (List ℕ) → Option (List ℕ) → Type 0
 IsRefused run text left left' = IsTooLarge text left left' ⊎ IsLineRefused text left left'
 IsRefused (select selector) text left left' = IsSelectorRefused selector text left left' ⊎ IsInputRefused selector text left left'
 
--- when a status comes of a task, and the text that goes with it, by what was read
-abbrev pub Comes : Task → Status → List ℕ → Option (List ℕ) → Option (List ℕ) → Type 0
-Comes task Done text left left' = IsDone task text left left'
-Comes task InputRefused text left left' = IsRefused task text left left'
-Comes task WordsRefused text left left' = ⊥
-Comes task ReadFault text left left' = text ≡ codes "fault: read\n"
-Comes task NoMemory text left left' = text ≡ codes "fault: memory\n"
-Comes task WriteFault text left left' = ⊥
+-- want of memory, before anything ran
+abbrev pub IsShort : List ℕ → World → World → Type 0
+IsShort text w w' = (text ≡ codes "fault: memory\n") × Unserved w w'
+
+-- want of memory: in a run it may come after some phases, but in none that began
+abbrev pub WantsMemory : Task → List ℕ → World → World → Type 0
+WantsMemory run text w w' = IsShort text w w' ⊎ IsCut (codes "fault: memory\n") text w w'
+WantsMemory (select selector) text w w' = IsShort text w w'
+
+-- when a status comes of a task, and the text that goes with it
+abbrev pub Comes : Task → Status → List ℕ → World → World → Type 0
+Comes task Done text w w' = IsDone task text w w'
+Comes task InputRefused text w w' = IsRefused task text w.left w'.left × Unserved w w'
+Comes task WordsRefused text w w' = ⊥
+Comes task ReadFault text w w' = (text ≡ codes "fault: read\n") × Unserved w w'
+Comes task NoMemory text w w' = WantsMemory task text w w'
+Comes task WriteFault text w w' = ⊥
 
 -- the source's count of faults rose, and by one, exactly where the status tells of it
 abbrev pub ReadFaults : Status → ℕ → ℕ → Type 0
@@ -75,14 +101,21 @@ Refuses fault result written written' faults faults' =
     ((fault ≡ input.NoMemory → ⊥) × Tells result InputRefused (fault_text fault) written written' faults faults') ⊎ Tells result NoMemory (codes "fault: memory\n") written written' faults faults'
 
 -- how a task ends that was asked for
-pub record TaskEnds (task : Task) (result : Status) (left left' written written' : Option (List ℕ)) (read_faults read_faults' write_faults write_faults' : ℕ) : Type 0 where
+pub record TaskEnds (task : Task) (result : Status) (w w' : World) : Type 0 where
   pub status : Status
   pub text : List ℕ
-  pub comes : Comes task status text left left'
-  pub source : ReadFaults status read_faults read_faults'
-  pub tells : Tells result status text written written' write_faults write_faults'
+  pub comes : Comes task status text w w'
+  pub source : ReadFaults status w.read_faults w'.read_faults
+  pub tells : Tells result status text w.written w'.written w.write_faults w'.write_faults
 
--- How a call ends, by the task that it was asked for. Where it was asked for none, the words are refused, and nothing was read.
-abbrev pub Ends : Option Task → Status → Option (List ℕ) → Option (List ℕ) → Option (List ℕ) → Option (List ℕ) → ℕ → ℕ → ℕ → ℕ → Type 0
-Ends None result left left' written written' read_faults read_faults' write_faults write_faults' = (left' ≡ left) × (read_faults' ≡ read_faults) × Tells result WordsRefused (codes "fault: words\n") written written' write_faults write_faults'
-Ends (Some task) result left left' written written' read_faults read_faults' write_faults write_faults' = TaskEnds task result left left' written written' read_faults read_faults' write_faults write_faults'
+-- where no task was asked for, the words are refused: nothing was read, and no target was served
+pub record WordsEnd (result : Status) (w w' : World) : Type 0 where
+  pub unread : w'.left ≡ w.left
+  pub source : w'.read_faults ≡ w.read_faults
+  pub unserved : Unserved w w'
+  pub tells : Tells result WordsRefused (codes "fault: words\n") w.written w'.written w.write_faults w'.write_faults
+
+-- how a call ends, by the task that it was asked for
+abbrev pub Ends : Option Task → Status → World → World → Type 0
+Ends None result w w' = WordsEnd result w w'
+Ends (Some task) result w w' = TaskEnds task result w w'

@@ -2,11 +2,12 @@
 //! bytes of the output and a status.
 #![tactic(auto)]
 
+mod built;
 mod faults;
 mod input;
 mod job;
-mod run;
-mod running;
+mod phases;
+mod puts;
 mod select;
 mod status;
 mod telling;
@@ -19,5 +20,7 @@ pub use input::INPUT_LIMIT;
 pub use status::Status;
 pub use top::{run_command, select_command};
 
+#[cfg(test)]
+mod phase_tests;
 #[cfg(test)]
 mod tests;

@@ -7,7 +7,9 @@ ghost use Rattle.broker_top.specs.Ends.{TaskEnds};
 ghost use Rattle.broker_top.specs.Input.{input_limit};
 ghost use Rattle.broker_top.specs.Select.{AreMessages, IsFirstRefused, TellsMessage, truth_line, truth_word, truths};
 ghost use Rattle.broker_top.specs.Text.{written_of};
+ghost use Rattle.target_core.specs.Seats.{Seat};
 ghost use Rattle.broker_top.specs.Words.{select};
+ghost use Rattle.broker_top.specs.World.{world};
 
 use crate::faults::InputFault;
 use crate::input::read_input;
@@ -86,7 +88,9 @@ pub(crate) fn select_messages<S: Source, K: Sink>(
     input: &mut S,
     out: &mut K,
 ) -> Status
-    ensures { TaskEnds (select text.now) result (S.left input.old) (S.left input.new) (K.written out.old) (K.written out.new) (S.faults input.old) (S.faults input.new) (K.faults out.old) (K.faults out.new) }
+    ensures { (seats : List Seat) → TaskEnds (select text.now) result
+        (world S.left S.faults K.written K.faults input.old out.old seats)
+        (world S.left S.faults K.written K.faults input.new out.new seats) }
 {
     let selector = match read(alloc, text) {
         Ok(selector) => selector,

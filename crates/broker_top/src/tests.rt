@@ -1,9 +1,15 @@
+//! Inputs, words and faults, and runs of one actor.
+ghost use Rattle.std.specs.Prelude.{◌≡◌, IfOk, vec_len};
+
 use crate::{INPUT_LIMIT, InputFault, Status, run_command, select_command};
 use byte_lists::Bytes;
-use outside_io::{MemorySink, MemorySource};
+use outside_io::{FreeGate, MemorySink, MemorySource};
 use std::alloc::{AllocError, Global};
 use std::process::Abort;
+use std::sync::Wait;
 use std::test::Fail;
+use std::thread::Threads;
+use target_core::{CONSUMERS, PlainTarget, Target};
 
 const Q: &str =
     "{\"queues\":[{\"name\":\"q\",\"type\":\"standard\",\"consumers\":[{\"name\":\"c\",\"actor\":\"a\"}]}]}\n";
@@ -123,7 +129,7 @@ const RUNS: &[(&[&str], Status, &str)] = &[
     // What isn't built is told of last.
     (
         &[
-            "\n{\"queues\":[{\"name\":\"q\",\"type\":\"priority\"}]}\n",
+            "\n{\"queues\":[{\"name\":\"q\",\"type\":\"lvq\"}]}\n",
             BARE_7,
         ],
         Status::InputRefused,
@@ -131,7 +137,7 @@ const RUNS: &[(&[&str], Status, &str)] = &[
     ),
     (
         &[
-            "{\"queues\":[{\"name\":\"q\",\"type\":\"priority\"}]}\n",
+            "{\"queues\":[{\"name\":\"q\",\"type\":\"lvq\"}]}\n",
             BARE_7,
             "[]",
         ],
@@ -139,20 +145,7 @@ const RUNS: &[(&[&str], Status, &str)] = &[
         "fault: line 3: BadValue\n",
     ),
     (
-        &["{\"queues\":[{\"name\":\"q\",\"overflowPolicy\":\"RING\"}]}\n"],
-        Status::InputRefused,
-        "fault: line 1: NotBuilt\n",
-    ),
-    (
-        &["{\"queues\":[{\"name\":\"q\"},{\"name\":\"r\"}]}\n"],
-        Status::InputRefused,
-        "fault: line 1: NotBuilt\n",
-    ),
-    (
-        &[
-            "{\"queues\":[{\"name\":\"q\",\"consumers\":[{\"name\":\"c\",\"actor\":\"a\",\"selector\":\"a = 1\"}]}]}\n",
-            TAKE,
-        ],
+        &["{\"queues\":[{\"name\":\"p\"},{\"name\":\"q\",\"overflowPolicy\":\"RING\"}]}\n"],
         Status::InputRefused,
         "fault: line 1: NotBuilt\n",
     ),
@@ -164,27 +157,26 @@ const RUNS: &[(&[&str], Status, &str)] = &[
         Status::InputRefused,
         "fault: line 2: BadSelector at 4: FloatLiteral\n",
     ),
-    (
-        &[Q, TAKE, "\n", REST],
-        Status::InputRefused,
-        "fault: line 4: NotBuilt\n",
-    ),
+    // The first line that isn't built, whoever's it is and whatever phase it stands in.
     (
         &[
             Q,
             TAKE,
-            "{\"do\":\"lock\",\"actor\":\"a\",\"queue\":\"q\"}\n",
+            ACK,
             REST,
+            "{\"do\":\"ack\",\"actor\":\"b\",\"queue\":\"q\"}\n",
+            "{\"do\":\"begin\",\"actor\":\"a\"}\n",
+            "{\"do\":\"begin\",\"actor\":\"b\"}\n",
         ],
         Status::InputRefused,
-        "fault: line 3: NotBuilt\n",
+        "fault: line 6: NotBuilt\n",
     ),
     (
         &[
             Q,
             TAKE,
-            "{\"do\":\"ack\",\"actor\":\"b\",\"queue\":\"q\"}\n",
-            REST,
+            "{\"do\":\"rollback\",\"actor\":\"b\"}\n",
+            "{\"do\":\"begin\",\"actor\":\"a\"}\n",
         ],
         Status::InputRefused,
         "fault: line 3: NotBuilt\n",
@@ -232,6 +224,17 @@ fn put_of(alloc: Global, count: usize) -> Result<Vec<u8>, AllocError> {
     Ok(bytes)
 }
 
+// A target for each consumer.
+fn targets(alloc: Global) -> Result<Vec<Box<dyn Target>>, AllocError>
+    ensures { IfOk result (λ targets. vec_len targets ≡ 64) }
+{
+    let mut targets: Vec<Box<dyn Target>> = Vec::new(alloc);
+    for _consumer in 0..CONSUMERS {
+        targets.push(Box::new(alloc, PlainTarget::make(alloc, None))?)?;
+    }
+    Ok(targets)
+}
+
 // The call of a test.
 #[derive(Clone, Copy)]
 enum Call {
@@ -240,8 +243,8 @@ enum Call {
 }
 
 // Calls with the words over the input, with calls that fail and room for the output; compares the end.
-fn check(
-    rt: &(impl Abort + AllocGlobal),
+fn check<R: Abort + AllocGlobal + Threads + Wait + Clone + Send + Sync + Drop>(
+    rt: &R,
     call: Call,
     words: &[&str],
     input: Vec<u8>,
@@ -259,7 +262,19 @@ fn check(
     let mut source = MemorySource::of(Bytes::from_vec(input), reads);
     let mut sink = MemorySink::of(alloc, room, writes)?;
     let status = match call {
-        Call::Run => run_command(alloc, &given, &mut source, &mut sink),
+        Call::Run => {
+            let targets = targets(alloc)?;
+            let ended = run_command(
+                rt,
+                alloc,
+                &given,
+                &mut source,
+                &mut sink,
+                &FreeGate,
+                targets,
+            );
+            ended.0
+        }
         Call::Select => select_command(alloc, &given, &mut source, &mut sink),
     };
     assert_eq!(rt; status, want.0);

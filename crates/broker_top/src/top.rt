@@ -1,60 +1,91 @@
 //! The top calls.
-ghost use Rattle.std.specs.Prelude.{map, string_bytes};
+ghost use Rattle.std.specs.Prelude.{◌≡◌, [], map, string_bytes, vec_len};
 ghost use Rattle.broker_top.specs.Ends.{Ends, TaskEnds};
 ghost use Rattle.broker_top.specs.Words.{asked, run, selecting};
+ghost use Rattle.broker_top.specs.World.{world};
 
 use crate::input::read_input;
-use crate::job::{Job, read_job};
-use crate::run::run;
+use crate::job::read_job;
+use crate::phases::{Stopped, run_phases};
 use crate::select::select_messages;
 use crate::status::Status;
-use crate::telling::{refuse, refuse_words, tell, tell_no_memory, tell_unread};
+use crate::telling::{refuse, refuse_words, tell_no_memory, tell_unread};
 use crate::words::{Asked, is_listed, is_select, read_words};
 use byte_lists::NoMemory;
-use outside_io::{Sink, Source};
+use outside_io::{Gate, Sink, Source};
 use std::alloc::Global;
+use std::sync::Wait;
+use std::thread::Threads;
+use target_core::{Roster, Target};
 
-/// Reads a script, runs it, and writes the text of the run.
-fn run_script<S: Source, K: Sink>(alloc: Global, input: &mut S, out: &mut K) -> Status
-    ensures { TaskEnds run result (S.left input.old) (S.left input.new) (K.written out.old) (K.written out.new) (S.faults input.old) (S.faults input.new) (K.faults out.old) (K.faults out.new) }
+/// Reads a script, runs it, and writes the text of each phase as it ends. Gives the targets back that were not closed.
+fn run_script<R: Threads + Wait + Clone + Send + Sync + Drop, S: Source, K: Sink, G: Gate>(
+    rt: &R,
+    alloc: Global,
+    input: &mut S,
+    out: &mut K,
+    gate: &G,
+    targets: Vec<Box<dyn Target>>,
+) -> (Status, Vec<Box<dyn Target>>)
+    requires targets { vec_len targets ≡ 64 }
+    ensures { TaskEnds run result.0
+        (world S.left S.faults K.written K.faults input.old out.old
+        (map seat targets.items))
+        (world S.left S.faults K.written K.faults input.new out.new
+        (map seat result.1.items)) }
 {
     let bytes = match read_input(alloc, input) {
         Ok(bytes) => bytes,
-        Err(unread) => return tell_unread(out, unread),
+        Err(unread) => return (tell_unread(out, unread), targets),
     };
-    let Job { queue, actor, ops } = match read_job(alloc, &bytes) {
+    let job = match read_job(alloc, &bytes) {
         Ok(job) => job,
-        Err(fault) => return refuse(alloc, out, fault),
+        Err(fault) => return (refuse(alloc, out, fault), targets),
     };
     drop(bytes);
-    match run(alloc, &queue, &actor, ops) {
-        Ok(text) => tell(out, Status::Done, &text),
-        Err(NoMemory) => tell_no_memory(out),
-    }
+    let mut roster = Roster::of(targets);
+    let status = match run_phases(rt, alloc, out, job, &mut roster, gate) {
+        Ok(()) => Status::Done,
+        Err(Stopped::NoMemory) => tell_no_memory(out),
+        Err(Stopped::WriteFault) => Status::WriteFault,
+    };
+    (status, roster.finish())
 }
 
 /// Does all that the program does for these words of its command line: for `run` it reads the whole input, tests every
-/// line, runs the lines, and writes the text of the run, or a fault line; for `select` and a text it does what
-/// [`select_command`] does.
+/// line, and runs the phases of the script, whose actors are threads of `rt` that run beside each other and pass the
+/// gate before and after each line. It writes the text of each phase as the phase ends, or a fault line. For `select`
+/// and a text it does what [`select_command`] does.
+///
+/// Asks for 64 targets: that of each consumer, by its number over all queues. Those that no line closed come back, in
+/// their order, each with what it was handed.
 ///
 /// docs/SCRIPT.md, "Statuses", says when each status comes. The input has at most [`INPUT_LIMIT`] bytes.
 ///
 /// [`INPUT_LIMIT`]: crate::INPUT_LIMIT
-pub fn run_command<S: Source, K: Sink>(
+pub fn run_command<R: Threads + Wait + Clone + Send + Sync + Drop, S: Source, K: Sink, G: Gate>(
+    rt: &R,
     alloc: Global,
     words: &[String],
     input: &mut S,
     out: &mut K,
-) -> Status
-    ensures { Ends (asked (map string_bytes words.now)) result (S.left input.old) (S.left input.new) (K.written out.old) (K.written out.new) (S.faults input.old) (S.faults input.new) (K.faults out.old) (K.faults out.new) }
+    gate: &G,
+    targets: Vec<Box<dyn Target>>,
+) -> (Status, Vec<Box<dyn Target>>)
+    requires targets { vec_len targets ≡ 64 }
+    ensures { Ends (asked (map string_bytes words.now)) result.0
+        (world S.left S.faults K.written K.faults input.old out.old
+        (map seat targets.items))
+        (world S.left S.faults K.written K.faults input.new out.new
+        (map seat result.1.items)) }
 {
     if !is_listed(words) {
-        return refuse_words(out);
+        return (refuse_words(out), targets);
     }
     match read_words(alloc, words) {
-        Ok(Asked::Run) => run_script(alloc, input, out),
-        Ok(Asked::Select(text)) => select_messages(alloc, text, input, out),
-        Err(NoMemory) => tell_no_memory(out),
+        Ok(Asked::Run) => run_script(rt, alloc, input, out, gate, targets),
+        Ok(Asked::Select(text)) => (select_messages(alloc, text, input, out), targets),
+        Err(NoMemory) => (tell_no_memory(out), targets),
     }
 }
 
@@ -62,8 +93,8 @@ pub fn run_command<S: Source, K: Sink>(
 /// whole input, tests every line, and writes `true`, `false` or `unknown` for each message, or a fault line. All other
 /// words are refused.
 ///
-/// docs/SCRIPT.md has the lines under "The command `select`", and says under "Statuses" when each status comes. The input
-/// has at most [`INPUT_LIMIT`] bytes.
+/// docs/SCRIPT.md has the lines under "The command `select`", and says under "Statuses" when each status comes. The
+/// input has at most [`INPUT_LIMIT`] bytes.
 ///
 /// [`INPUT_LIMIT`]: crate::INPUT_LIMIT
 pub fn select_command<S: Source, K: Sink>(
@@ -72,7 +103,9 @@ pub fn select_command<S: Source, K: Sink>(
     input: &mut S,
     out: &mut K,
 ) -> Status
-    ensures { Ends (selecting (asked (map string_bytes words.now))) result (S.left input.old) (S.left input.new) (K.written out.old) (K.written out.new) (S.faults input.old) (S.faults input.new) (K.faults out.old) (K.faults out.new) }
+    ensures { Ends (selecting (asked (map string_bytes words.now))) result
+        (world S.left S.faults K.written K.faults input.old out.old [])
+        (world S.left S.faults K.written K.faults input.new out.new []) }
 {
     if !is_select(words) {
         return refuse_words(out);

@@ -33,7 +33,6 @@ use Rattle.entry_table.specs.declared.pass.Pass.{Pass}
 use Rattle.entry_table.specs.declared.view.View.{View}
 use Rattle.entry_table.specs.Passes.{Kept, Did, view, opening, seen, shown, allowance, share, callers, consumers}
 use Rattle.entry_table.specs.Plays.{Taking, Steps, Went, Shows}
-use Rattle.entry_table.specs.Rule.{Carries}
 use Rattle.entry_table.specs.Sights.{sight}
 use Rattle.entry_table.specs.Views.{entry, caller_of}
 use Rattle.entry_table.proofs.Sighting.{stepped, same_rights}

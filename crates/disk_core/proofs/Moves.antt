@@ -70,9 +70,6 @@ written_image first s at bytes c le (inr p) = p
 pub sync_push : (all : List ℕ) (ms : List Move) → steps_of all (ms ++ (move.Sync ∷ [])) ≡ Sync ∷ steps_of all ms
 sync_push all ms = ap (λ (l : List Step). reverse l) (map-append (step_of all) ms (move.Sync ∷ [])) ∙ reverse-append (map (step_of all) ms) (step_of all move.Sync ∷ [])
 
-pub within_sync : (n : ℕ) (ms : List Move) → All (IsWithin n) ms → All (IsWithin n) (ms ++ (move.Sync ∷ []))
-within_sync n ms w = All-append (IsWithin n) ms (move.Sync ∷ []) w (one n move.Sync tt)
-
 pub tells_of : (f n : ℕ) → nat_lt f last_count ≡ true → n < 2 ^ 63 → IsTrue (nat_lt f last_count && nat_lt n (2 ^ 63))
 tells_of f n is lt = let two : nat_lt n (2 ^ 63) ≡ true = lt-ltb n (2 ^ 63) lt in subst (λ b. IsTrue (b && nat_lt n (2 ^ 63))) (sym is) (subst (λ b. IsTrue b) (sym two) refl)
 

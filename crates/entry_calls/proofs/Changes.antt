@@ -21,7 +21,7 @@ use Rattle.queue_model.proofs.Prefixes.{prefix_self}
 use Rattle.queue_model.proofs.Stable.{row_stays}
 use Rattle.acts_core.specs.Load.{Load}
 use Rattle.acts_core.specs.Lists.{Saw}
-use Rattle.acts_core.specs.Moments.{JustBefore}
+use Rattle.acts_core.specs.Moments.{JustBefore, IsLoadOf}
 use Rattle.acts_core.specs.Sight.{Showed}
 use Rattle.link_core.specs.Steps.{goes_to, act_with}
 use Rattle.entry_table.specs.declared.pass.Pass.{Pass}
@@ -29,7 +29,6 @@ use Rattle.entry_table.specs.declared.view.View.{View}
 use Rattle.entry_table.specs.Homes.{Brought}
 use Rattle.entry_table.specs.Passes.{Kept, Did, view, opening, seen, shown, callers, consumers}
 use Rattle.entry_table.specs.Plays.{Steps, Shows, DidChange, ShowsState, Taking, by_me, quiet}
-use Rattle.entry_table.specs.Rule.{Carries}
 use Rattle.entry_table.specs.Views.{caller_of, entry}
 use Rattle.entry_calls.specs.Changed.{Changed, Looks}
 
@@ -72,7 +71,7 @@ one_change old new row change from slot a x d =
 module _ {C : Type 0} (load : C → Load) where
   -- a row that was taken, by an exchange and a load for its slot's sake
   pub took_row : (old new : Pass) (row : ℕ) (change : Change) (from : RowState) (c : C) → Taking load row change from (view old) (view new) (Ok c)
-      → (x : Row) × Carries (load c) x × (n : ℕ) × Changed old new (act_with 0 change row) row x (change_entry old row change from (seen new) ∷ quiet n (seen new) ∷ [])
+      → (x : Row) × IsLoadOf x (load c) × (n : ℕ) × Changed old new (act_with 0 change row) row x (change_entry old row change from (seen new) ∷ quiet n (seen new) ∷ [])
   took_row old new row change from c t =
       let u : View = t.0 in
       let a : Act = act_with 0 change row in

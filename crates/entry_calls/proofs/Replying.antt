@@ -25,14 +25,11 @@ use Rattle.acts_core.proofs.Stepping.{called_by, stepped_trans}
 use Rattle.entry_table.specs.declared.entries.Entries.{Entries}
 use Rattle.entry_table.specs.declared.pass.Pass.{Pass}
 use Rattle.entry_table.specs.Passes.{Did, opening, seen, shown}
-use Rattle.entry_table.specs.Rule.{Carries}
 use Rattle.entry_table.specs.Sights.{build_of, sight}
 use Rattle.entry_table.proofs.Sighting.{stepped}
 use Rattle.entry_calls.specs.Changed.{Keeps, Changed, Looks}
 
 -- a cargo is that of its row
-load_of : (l : Load) (x : Row) → Carries l x → IsLoadOf x l
-load_of l x c = record { id = c.id; size = c.size; count = c.count; content = c.content; origin = c.origin }
 
 pub keeps_trans : (a b c : Pass) → Keeps a b → Keeps b c → Keeps a c
 keeps_trans a b c k l = record {
@@ -52,10 +49,10 @@ keeps_trans a b c k l = record {
 module _ {C : Type 0} (e : Entries C) (old new : Pass) (keeps : Keeps old new) (row : ℕ) where
   -- Locks
 
-  pub locks : (l : Load) (x : Row) (added : List Tried) → Carries l x → Changed old new (acts.Lock row) row x added → Called (build_of e) (sight old) (sight new) (CallLock row) (IsLocked l)
+  pub locks : (l : Load) (x : Row) (added : List Tried) → IsLoadOf x l → Changed old new (acts.Lock row) row x added → Called (build_of e) (sight old) (sight new) (CallLock row) (IsLocked l)
   locks l x added carries c =
       called_by (build_of e) (sight old) (sight new) (CallLock row) (IsLocked l) added refl (stepped old new (acts.Lock row ∷ []) added keeps.kept c.did c.shown_is)
-      (record { moment = c.moment; before = c.before; hands = record { row = x; found = c.found; same = load_of l x carries } }) tt keeps.allowance keeps.share
+      (record { moment = c.moment; before = c.before; hands = record { row = x; found = c.found; same = carries } }) tt keeps.allowance keeps.share
 
   pub lock_stolen : (s : RowState) (t : Tried) → s ≢ Unlocked old.caller → Looks old new row s t → Called (build_of e) (sight old) (sight new) (CallLock row) (IsStolen s)
   lock_stolen s t other l =
@@ -101,7 +98,7 @@ module _ {C : Type 0} (e : Entries C) (old mid new : Pass) (first : Keeps old mi
   steps_both : (s : RowState) (t : Tried) (acts_done : List Act) (added : List Tried) → Looks old mid row s t → Did mid new acts_done → shown new ≡ shown mid ++ added → Stepped (sight old) (sight new) acts_done (t ∷ added)
   steps_both s t acts_done added l did is = stepped_trans (sight old) (sight mid) (sight new) [] acts_done (t ∷ []) added (stepped old mid [] (t ∷ []) first.kept l.did l.shown_is) (stepped mid new acts_done added second.kept did is)
 
-  pub steals : (l : Load) (x : Row) (s : RowState) (t : Tried) (added : List Tried) → Looks old mid row s t → Carries l x → Changed mid new (acts.Steal row) row x added → Called (build_of e) (sight old) (sight new) (CallSteal row) (HasStolen l)
+  pub steals : (l : Load) (x : Row) (s : RowState) (t : Tried) (added : List Tried) → Looks old mid row s t → IsLoadOf x l → Changed mid new (acts.Steal row) row x added → Called (build_of e) (sight old) (sight new) (CallSteal row) (HasStolen l)
   steals l x s t added look carries c =
       let open_same = first.kept.opening in
       called_by (build_of e) (sight old) (sight new) (CallSteal row) (HasStolen l) (t ∷ added) refl (steps_both s t (acts.Steal row ∷ []) added look c.did c.shown_is)
@@ -111,7 +108,7 @@ module _ {C : Type 0} (e : Entries C) (old mid new : Pass) (first : Keeps old mi
           later = prefix_trans (seen old) (seen mid) c.moment look.did.prefix c.before.later;
           early = subst (λ (k : ℕ). IsPrefix (c.moment ++ deed k (acts.Steal row) ∷ []) (seen new)) first.kept.caller c.before.early;
         };
-        hands = record { row = x; found = subst (λ (o : Queue). row_at (after o c.moment) row ≡ Some x) open_same c.found; same = load_of l x carries };
+        hands = record { row = x; found = subst (λ (o : Queue). row_at (after o c.moment) row ≡ Some x) open_same c.found; same = carries };
       }) tt both.allowance both.share
 
   pub moves : (k : ℕ) (s : RowState) (t t' : Tried) → Looks old mid row (Unlocked k) t → s ≢ Unlocked k → Looks mid new row s t' → Called (build_of e) (sight old) (sight new) (CallSteal row) (IsMoved s)

@@ -26,7 +26,8 @@ pub fn enqueue<C: Freight>(
     requires serves { Serves entries.now pass.old }
     requires may { MayPut Listed (state pass.old) pass.old.caller slip.now (C.goods cargo) }
     ensures serves { Serves entries.now pass.new }
-    ensures called { Called (build_of entries.now) (sight pass.old) (sight pass.new) (CallPut slip.now (C.goods cargo)) (of_put C.goods result) }
+    ensures called { Called (build_of entries.now) (sight pass.old) (sight pass.new)
+        (CallPut slip.now (C.goods cargo)) (of_put C.goods result) }
 {
     match entries.draw_row(pass, cargo) {
         Drawn::Spent(back) => Placed::Spent(back),

@@ -15,7 +15,8 @@ use queue_model::{Depth, ENTRY_WORTH, WordName};
 pub fn depth<C: Freight>(entries: &Entries<C>, pass: &mut Pass) -> Depth
     requires serves { Serves entries.now pass.old }
     ensures serves { Serves entries.now pass.new }
-    ensures called { Called (build_of entries.now) (sight pass.old) (sight pass.new) CallDepth (IsDepth result) }
+    ensures called { Called (build_of entries.now) (sight pass.old) (sight pass.new) CallDepth
+        (IsDepth result) }
 {
     let word = entries.look(pass, WordName::Depth);
     Depth {
@@ -31,7 +32,8 @@ pub fn reserve<C: Freight>(entries: &Entries<C>, pass: &mut Pass, size: u64) -> 
     requires size { size ≤ most_bytes }
     requires allowed { 0 < allowance pass.old }
     ensures serves { Serves entries.now pass.new }
-    ensures called { Called (build_of entries.now) (sight pass.old) (sight pass.new) (CallReserve size) (IsDepth result) }
+    ensures called { Called (build_of entries.now) (sight pass.old) (sight pass.new)
+        (CallReserve size) (IsDepth result) }
 {
     entries.reserve_depth(pass, size)
 }
@@ -41,7 +43,8 @@ pub fn give_back<C: Freight>(entries: &Entries<C>, pass: &mut Pass, size: u64)
     requires serves { Serves entries.now pass.old }
     requires reserved { CanGive (reserved_by (state pass.old) pass.old.caller) size }
     ensures serves { Serves entries.now pass.new }
-    ensures called { Called (build_of entries.now) (sight pass.old) (sight pass.new) (CallGiveBack size) IsDone }
+    ensures called { Called (build_of entries.now) (sight pass.old) (sight pass.new)
+        (CallGiveBack size) IsDone }
 {
     entries.give_back(pass, size);
 }

@@ -52,7 +52,8 @@ pub fn find<C: Freight>(entries: &Entries<C>, pass: &mut Pass, id: u64) -> Optio
     requires serves { Serves entries.now pass.old }
     ensures serves { Serves entries.now pass.new }
     ensures kept { Kept pass.old pass.new }
-    ensures called { Called (build_of entries.now) (sight pass.old) (sight pass.new) (CallFind id) (IsFound result) }
+    ensures called { Called (build_of entries.now) (sight pass.old) (sight pass.new) (CallFind id)
+        (IsFound result) }
 {
     let mut list = entries.lists();
     'lists: while list > 0 {

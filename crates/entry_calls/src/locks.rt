@@ -18,7 +18,8 @@ pub fn lock<C: Freight>(entries: &Entries<C>, pass: &mut Pass, row: u64) -> Lock
     requires serves { Serves entries.now pass.old }
     requires left { HasLeft pass.old.caller row (seen pass.old) }
     ensures serves { Serves entries.now pass.new }
-    ensures called { Called (build_of entries.now) (sight pass.old) (sight pass.new) (CallLock row) (of_lock C.goods result) }
+    ensures called { Called (build_of entries.now) (sight pass.old) (sight pass.new) (CallLock row)
+        (of_lock C.goods result) }
 {
     let own = RowState::Unlocked(pass.caller());
     match entries.take_row(pass, row, Change::Lock, own) {
@@ -32,7 +33,8 @@ pub fn unlock<C: Freight>(entries: &Entries<C>, pass: &mut Pass, row: u64, cargo
     requires serves { Serves entries.now pass.old }
     requires handed { Handed (state pass.old) pass.old.caller row (C.goods cargo) }
     ensures serves { Serves entries.now pass.new }
-    ensures called { Called (build_of entries.now) (sight pass.old) (sight pass.new) (CallUnlock row (C.goods cargo)) IsDone }
+    ensures called { Called (build_of entries.now) (sight pass.old) (sight pass.new)
+        (CallUnlock row (C.goods cargo)) IsDone }
 {
     entries.bring_row(pass, row, Change::Unlock, cargo);
 }
@@ -42,7 +44,8 @@ pub fn release<C: Freight>(entries: &Entries<C>, pass: &mut Pass, row: u64, carg
     requires serves { Serves entries.now pass.old }
     requires handed { Handed (state pass.old) pass.old.caller row (C.goods cargo) }
     ensures serves { Serves entries.now pass.new }
-    ensures called { (mask : ℕ) × Called (build_of entries.now) (sight pass.old) (sight pass.new) (CallRelease row (C.goods cargo)) (IsReleased mask) }
+    ensures called { (mask : ℕ) × Called (build_of entries.now) (sight pass.old) (sight pass.new)
+        (CallRelease row (C.goods cargo)) (IsReleased mask) }
 {
     entries.bring_row(pass, row, Change::Rel, cargo);
 }
@@ -53,7 +56,8 @@ pub fn steal<C: Freight>(entries: &Entries<C>, pass: &mut Pass, row: u64) -> Ste
     requires serves { Serves entries.now pass.old }
     requires row { Has (state pass.old) row }
     ensures serves { Serves entries.now pass.new }
-    ensures called { Called (build_of entries.now) (sight pass.old) (sight pass.new) (CallSteal row) (of_steal C.goods result) }
+    ensures called { Called (build_of entries.now) (sight pass.old) (sight pass.new) (CallSteal row)
+        (of_steal C.goods result) }
 {
     let state = state_of(entries.look(pass, WordName::State(row)));
     let RowState::Unlocked(_) = state else {

@@ -17,7 +17,8 @@ pub fn dequeue<C: Freight>(entries: &Entries<C>, pass: &mut Pass, row: u64)
     requires serves { Serves entries.now pass.old }
     requires holder { IsIn (state pass.old) row (Locked pass.old.caller) }
     ensures serves { Serves entries.now pass.new }
-    ensures called { (size : ℕ) × Called (build_of entries.now) (sight pass.old) (sight pass.new) (CallDequeue row) (IsFreed size) }
+    ensures called { (size : ℕ) × Called (build_of entries.now) (sight pass.old) (sight pass.new)
+        (CallDequeue row) (IsFreed size) }
 {
     let word = DraftWord::Size;
     let size = entries.look(pass, WordName::Draft { row, word });
@@ -30,7 +31,8 @@ pub fn delete<C: Freight>(entries: &Entries<C>, pass: &mut Pass, row: u64)
     requires serves { Serves entries.now pass.old }
     requires dequeued { HasDequeued pass.old.caller row (seen pass.old) }
     ensures serves { Serves entries.now pass.new }
-    ensures called { Called (build_of entries.now) (sight pass.old) (sight pass.new) (CallDelete row) IsDone }
+    ensures called { Called (build_of entries.now) (sight pass.old) (sight pass.new)
+        (CallDelete row) IsDone }
 {
     entries.delete_row(pass, row);
 }

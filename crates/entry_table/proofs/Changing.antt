@@ -23,6 +23,7 @@ use Rattle.queue_model.specs.declared.steps.Step.TheVariants as steps
 use Rattle.queue_model.specs.History.{after, Legal, deed}
 use Rattle.queue_model.specs.Laws.{SameGoods, KeepsDepth}
 use Rattle.acts_core.specs.Load.{Load}
+use Rattle.acts_core.specs.Moments.{IsLoadOf}
 use Rattle.queue_model.specs.State.{is_row, row_at, IsIn, entries}
 use Rattle.queue_model.specs.Table.{Can, acted, changed, in_state, left_in}
 use Rattle.queue_model.proofs.Depths.{depth_kept}
@@ -39,9 +40,10 @@ use Rattle.link_core.proofs.Softening.{found_before, none_before}
 use Rattle.entry_table.specs.declared.view.Shape.{Shape}
 use Rattle.entry_table.specs.declared.view.View.{View}
 use Rattle.entry_table.specs.Views.{Has, caller_of, takes_of, EndsBy, AllEnd}
-use Rattle.entry_table.specs.Rule.{table_at, Carries, Full, Cargoes, Lies, Each, Takes, Holds, Away, RuledAt, Ruled, allowance, share}
+use Rattle.entry_table.specs.Rule.{table_at, Full, Cargoes, Lies, Each, Takes, Holds, Away, RuledAt, Ruled, allowance, share}
 use Rattle.entry_table.specs.Plays.{by_me, Went, changed_view, DidChange, took, freed, ended, looked, TakesOut, IsEnding}
 use Rattle.entry_table.proofs.Frames.{sum_views, drafts_set, takes_set, away_set}
+use Rattle.entry_table.proofs.Onwards.{links_off, watches_set}
 use Rattle.entry_table.proofs.Keeping.{Same, opened, now, drawn_low, has_me, knows_me, held_now, sees_all, ruled_next, went, mine_alone}
 use Rattle.entry_table.proofs.Looking.{miss_owes, by_found}
 use Rattle.entry_table.proofs.Reserving.{ends_more}
@@ -125,10 +127,6 @@ module _ {C : Type 0} (load : C → Load) where
     rows = λ r y e. ⊎_elim
         (λ (p : (r ≡ row) × (y ≡ f x)). subst (λ (z : ℕ × Row). Lies load homes' z.0 z.1 z.1.state) (λ i. (sym p.0 i, sym p.1 i)) lies)
         (λ (p : (r ≢ row) × (row_at q r ≡ Some y)). lies_same homes homes' r y y.state (else r p.0) (c.rows r y p.1))
-        (found_before q row r f x y kept found (ap (λ (l : List Row). find (is_row r) l) (sym rows) ∙ e));
-    keyless = λ r y e. ⊎_elim
-        (λ (p : (r ≡ row) × (y ≡ f x)). ap (λ (z : Row). z.slip.key) p.1 ∙ ap (λ (z : Slip). z.key) (kept x).slip ∙ c.keyless row x found)
-        (λ (p : (r ≢ row) × (row_at q r ≡ Some y)). c.keyless r y p.1)
         (found_before q row r f x y kept found (ap (λ (l : List Row). find (is_row r) l) (sym rows) ∙ e));
     others = λ r within e.
         let p = none_before q row r f x kept found (ap (λ (l : List Row). find (is_row r) l) (sym rows) ∙ e) in
@@ -239,10 +237,10 @@ module _ {C : Type 0} (load : C → Load) (shape : Shape) where
 
     -- what any change makes of the rule
     pub state_rule : (w : View) (homes : List (maybe.Option (Option C))) (outs enders : ℕ → ℕ) → FitsState tab k row change from → slice_index s.words (state_of row) ≡ pack_state from
-        → w.seen ≡ r.history ++ by_me v a ∷ [] → Same v w → w.drawn ≡ v.drawn → w.told ≡ [] → w.allowance ≡ v.allowance → w.share ≡ v.share → w.reached ≡ v.reached
+        → w.seen ≡ r.history ++ by_me v a ∷ [] → Same v w → w.drawn ≡ v.drawn → w.told ≡ [] → w.watched ≡ v.watched → w.allowance ≡ v.allowance → w.share ≡ v.share → w.reached ≡ v.reached
         → length homes ≡ shape.rows → AllEnd enders (r.history ++ by_me v a ∷ []) → Cargoes load homes (acted q k a) → Each (Takes homes outs) (set s.views id w) → Holds (acted q k a) id w → Away homes outs (set s.views id w)
         → RuledAt load shape v.opening record { words = set s.words (state_of row) (pack_state (goes_to k change)); homes = homes; views = set s.views id w } × Went v w (by_me v a ∷ [])
-    state_rule w homes outs enders fits hit seen same drawn told allowances shares reached rows ends cargoes taking held away =
+    state_rule w homes outs enders fits hit seen same drawn told watched allowances shares reached rows ends cargoes taking held away =
         let i : ℕ = state_of row in
         let n : ℕ = pack_state (goes_to k change) in
         let words : List ℕ = set s.words i n in
@@ -273,6 +271,7 @@ module _ {C : Type 0} (load : C → Load) (shape : Shape) where
             unwritten = λ j y less high. off j y less ∙ r.unwritten j y less (omega (arith, top, high));
             top = omega (arith, top);
             reaches = omega (arith, top, reached, low);
+            watches = watches_set shape q (by_me v a ∷ []) s.words words s.views id v w at watched (links_off shape q s.words i n (λ l lt. omega arith) (λ j less. omega arith)) r.watches;
             takes = taking;
             held = held;
             away = away;
@@ -296,7 +295,7 @@ module _ {C : Type 0} (load : C → Load) (shape : Shape) where
       let fits : FitsState t h' row change from = record { row = node_now load shape s id v h ended is at r (nodes.Row row) (x, known); goes = goes; packable = packable } in
       let w : View = changed_view v row change from (Some row) a' r.history in
       by_found load shape s id (state_of row) (pack_state from) (pack_state (goes_to h' change)) m
-      (λ m'. (c : C) × (y : Row) × Carries (load c) y × (m'.1 ≡ (row, Some c) ∷ m.1) × DidChange v m'.0 row change from (Some row) a' y) (looked (steps.State row change from) m (slice_index s.words (state_of row))) (took load row change from m)
+      (λ m'. (c : C) × (y : Row) × IsLoadOf y (load c) × (m'.1 ≡ (row, Some c) ∷ m.1) × DidChange v m'.0 row change from (Some row) a' y) (looked (steps.State row change from) m (slice_index s.words (state_of row))) (took load row change from m)
       (λ u e told. ((λ hit. told), (λ ne. absurd (ne e))))
       (λ u e told. ((λ hit. absurd (e hit)), (λ ne. told)))
       (λ e.
@@ -305,7 +304,7 @@ module _ {C : Type 0} (load : C → Load) (shape : Shape) where
       let full = full_out load s.homes h' change row y.0 from out goes (subst (λ (z : RowState). Lies load s.homes row y.0 z) y.2 (r.cargoes.rows row y.0 y.1)) in
       let tops = r.stands.draws.top in let rows = r.rows in let under = r.stands.draws.below row y.0 y.1 in
       let less : row < length s.homes = omega (arith, tops, rows, under) in
-      let p = state_rule s id v h ended is at r row change from 0 w (set s.homes row maybe.none) (out_to r.outs row id) r.enders fits e refl (record { shape = refl; opening = refl; callers = refl; made = refl; alone = refl; consumers = refl }) refl refl refl refl refl
+      let p = state_rule s id v h ended is at r row change from 0 w (set s.homes row maybe.none) (out_to r.outs row id) r.enders fits e refl (record { shape = refl; opening = refl; callers = refl; made = refl; alone = refl; consumers = refl }) refl refl refl refl refl refl
       (length-set s.homes row maybe.none ∙ r.rows) (ends_more r.enders r.history (by_me v a') r.ends (ends_out r.enders h' 0 change row out))
       (cargoes_changed load s.homes (set s.homes row maybe.none) q' (acted q' h' a') row (in_state (Locked h')) y.0 (goods_in (Locked h')) y.1 (rows_out q' h' 0 change row out) (length-set s.homes row maybe.none) (λ j ne. lists.set_else s.homes row j maybe.none ne)
       (inl (lists.set_here s.homes row maybe.none less)) r.cargoes)
@@ -344,7 +343,7 @@ module _ {C : Type 0} (load : C → Load) (shape : Shape) where
       let tops = r.stands.draws.top in let rows = r.rows in let under = r.stands.draws.below row still.0 still.1 in
       let less : row < length s.homes = omega (arith, tops, rows, under) in
       let same : SameGoods x there.0 = there.2 in
-      let carries : Carries (load c) (f still.0) = record {
+      let carries : IsLoadOf (f still.0) (load c) = record {
         id = goods.0 ∙ ap (λ (z : Slip). z.id) (sym same.slip) ∙ ap (λ (z : Row). z.slip.id) (sym one);
         size = goods.1 ∙ ap (λ (z : Slip). z.size) (sym same.slip) ∙ ap (λ (z : Row). z.slip.size) (sym one);
         count = count_is;
@@ -352,7 +351,7 @@ module _ {C : Type 0} (load : C → Load) (shape : Shape) where
         origin = goods.3 ∙ sym same.origin ∙ ap (λ (z : Row). z.origin) (sym one);
       } in
       let homes : List (maybe.Option (Option C)) = set s.homes row (maybe.some (Some c)) in
-      let p = state_rule s id v h ended is at r row change from count w homes r.outs r.enders fits e refl (record { shape = refl; opening = refl; callers = refl; made = refl; alone = refl; consumers = refl }) refl refl refl refl refl
+      let p = state_rule s id v h ended is at r row change from count w homes r.outs r.enders fits e refl (record { shape = refl; opening = refl; callers = refl; made = refl; alone = refl; consumers = refl }) refl refl refl refl refl refl
       (length-set s.homes row (maybe.some (Some c)) ∙ r.rows) (ends_more r.enders r.history (by_me v a') r.ends (ends_home r.enders h' count change row home))
       (cargoes_changed load s.homes homes q' (acted q' h' a') row f still.0 (goods_left (goes_to h' change) count) still.1 (rows_home q' h' count change row home) (length-set s.homes row (maybe.some (Some c))) (λ j ne. lists.set_else s.homes row j (maybe.some (Some c)) ne)
       (lies_home load homes h' change row (f still.0) home (c, lists.set_here s.homes row (maybe.some (Some c)) less, carries)) r.cargoes)
@@ -387,7 +386,7 @@ module _ {C : Type 0} (load : C → Load) (shape : Shape) where
       (λ e.
       let y = row_of_change t q' h' row change from r.stands fits e in
       let ends = ends_after r.enders r.history v.opening h' change from row v r.legal ending goes (knows_me load shape s id v h ended' is at r).prefix y r.ends in
-      let p = state_rule s id v h ended' is at r row change from 0 w s.homes r.outs ends.0 fits e refl (record { shape = refl; opening = refl; callers = refl; made = refl; alone = refl; consumers = refl }) refl refl refl refl refl
+      let p = state_rule s id v h ended' is at r row change from 0 w s.homes r.outs ends.0 fits e refl (record { shape = refl; opening = refl; callers = refl; made = refl; alone = refl; consumers = refl }) refl refl refl refl refl refl
       r.rows ends.1
       (cargoes_changed load s.homes s.homes q' (acted q' h' a') row (in_state (goes_to h' change)) y.0 (goods_in (goes_to h' change)) y.1 (rows_end q' h' change row v ending) refl (λ j ne. refl)
       (lies_end load s.homes h' change from row y.0 v ending goes (subst (λ (z : RowState). Lies load s.homes row y.0 z) y.2 (r.cargoes.rows row y.0 y.1))) r.cargoes)

@@ -28,6 +28,7 @@ use Rattle.entry_table.specs.Views.{caller_of, is_drawing, drawing_at, blank_dra
 use Rattle.entry_table.specs.Rule.{table_at, IsDraft, Drafted, RuledAt, Ruled, allowance, share}
 use Rattle.entry_table.specs.Plays.{drew, draws, drew_view, stored, stored_view, looked}
 use Rattle.entry_table.proofs.Frames.{views_set, sum_views, in_sum, takes_set, holds_idle, away_set}
+use Rattle.entry_table.proofs.Onwards.{links_off, watches_set}
 use Rattle.entry_table.proofs.Keeping.{opened, now, me, has_me, knows_me, sees_all, ruled_next, went}
 use Rattle.entry_table.proofs.Looking.{Owes, miss_owes, by_found}
 
@@ -99,6 +100,7 @@ module _ {C : Type 0} (load : C → Load) (shape : Shape) where
             unwritten = λ i x few high. off i x ∙ r.unwritten i x few (omega (arith, up, high));
             top = omega (arith, up);
             reaches = omega (arith, up);
+            watches = watches_set shape q [] s.words words s.views id v w at refl (links_off shape q s.words 0 (t + 1) (λ l lt. omega arith) (λ i fewer. omega arith)) r.watches;
             takes = takes_set s.homes r.outs s.views id v w at refl r.takes;
             held = holds_idle q id w idle;
             away = λ i e. away_set s.views id v w (r.outs i) i at refl (r.away i e);
@@ -236,6 +238,7 @@ module _ {C : Type 0} (load : C → Load) (shape : Shape) where
             unwritten = λ j x few high. off j x (omega (arith, same_top, high, under)) ∙ r.unwritten j x few (omega (arith, same_top, high));
             top = omega (arith, same_top);
             reaches = omega (arith, same_top, reached);
+            watches = watches_set shape q [] s.words words s.views id v w at refl (links_off shape q s.words i value (λ l lt. omega (arith, under, tops, draft_high row word)) (λ j fewer. omega (arith, draft_low row word, draft_high row word))) r.watches;
             takes = takes_set s.homes r.outs s.views id v w at refl r.takes;
             held = holds_idle q id w idle;
             away = λ j e. away_set s.views id v w (r.outs j) j at refl (r.away j e);

@@ -24,6 +24,7 @@ use Rattle.queue_model.specs.declared.steps.Step.TheVariants as steps
 use Rattle.queue_model.specs.History.{after}
 use Rattle.queue_model.specs.Laws.{SameGoods}
 use Rattle.acts_core.specs.Load.{Load}
+use Rattle.acts_core.proofs.Running.{lists_stay}
 use Rattle.queue_model.specs.State.{row_at, list_at, place_at, entries}
 use Rattle.queue_model.specs.Table.{Can, CanGive, acted, with_less}
 use Rattle.queue_model.proofs.Depths.{depth_kept}
@@ -38,7 +39,7 @@ use Rattle.link_core.specs.Stands.{Stands}
 use Rattle.link_core.specs.Steps.{FitsLink, slip_in, size_in, place_behind}
 use Rattle.link_core.specs.Table.{Table, but, IsNode, list_of_node}
 use Rattle.link_core.proofs.Frames.{but_else, draft_low, draft_high, set_else}
-use Rattle.link_core.proofs.Linking.{link_step}
+use Rattle.link_core.proofs.Linking.{node_facts, link_step}
 use Rattle.entry_table.specs.declared.view.Drawing.{Drawing}
 use Rattle.entry_table.specs.declared.view.Shape.{Shape}
 use Rattle.entry_table.specs.declared.view.View.{View}
@@ -46,31 +47,12 @@ use Rattle.entry_table.specs.Views.{caller_of, is_drawing, drawing_at, slip_of}
 use Rattle.entry_table.specs.Rule.{table_at, Cargoes, Lies, Drafted, RuledAt, Ruled, allowance, share}
 use Rattle.entry_table.specs.Plays.{by_me, IsKnown, list_at_node, place_at_node, Linkable, enters, linked, linked_view, DidLink, LinkReady, linking, looked}
 use Rattle.entry_table.proofs.Frames.{views_set, sum_views}
+use Rattle.entry_table.proofs.Onwards.{links_written, watches_set}
 use Rattle.entry_table.proofs.Keeping.{opened, now, me, knows_me, after_seen, reserved_now, sees_all, ruled_next, went, mine_alone}
 use Rattle.entry_table.proofs.Looking.{miss_owes, by_found}
 use Rattle.entry_table.proofs.Reserving.{ends_more}
 use Rattle.entry_table.proofs.Drafting.{other_draft}
 use Rattle.entry_table.proofs.Slots.{lies_else, bare_else, takes_back, away_back, mine_less}
-
--- Lists and consumers of a queue stay
-
-lists_step : (q : Queue) (h : ℕ) (a : Act) → ((acted q h a).lists ≡ q.lists) × ((acted q h a).consumers ≡ q.consumers)
-lists_step q h (acts.Acq r) = (refl, refl)
-lists_step q h (acts.Lock r) = (refl, refl)
-lists_step q h (acts.Unlock r n) = (refl, refl)
-lists_step q h (acts.Steal r) = (refl, refl)
-lists_step q h (acts.Rel r n) = (refl, refl)
-lists_step q h (acts.Deq r) = (refl, refl)
-lists_step q h (acts.Del r) = (refl, refl)
-lists_step q h (acts.Reserve size) = (refl, refl)
-lists_step q h (acts.GiveBack size) = (refl, refl)
-lists_step q h (acts.Enq r slip content origin n) = (refl, refl)
-lists_step q h (acts.Bell r c) = (refl, refl)
-lists_step q h (acts.Take c l) = (refl, refl)
-
-pub lists_after : (q : Queue) (ds : List Deed) → ((after q ds).lists ≡ q.lists) × ((after q ds).consumers ≡ q.consumers)
-lists_after q [] = (refl, refl)
-lists_after q (d ∷ ds) = let one = lists_step q d.caller d.act in let more = lists_after (acted q d.caller d.act) ds in (more.0 ∙ one.0, more.1 ∙ one.1)
 
 -- Rows of a queue with one more
 
@@ -89,15 +71,15 @@ module _ (q : Queue) (h r : ℕ) (slip : Slip) (content origin : List ℕ) (n : 
   none_entered k e = ((λ same. let bad : None ≡ Some (entered r slip content origin n) = sym e ∙ ap (row_at (acted q h (acts.Enq r slip content origin n))) same ∙ own_enqueued q h r slip content origin n can in absurd (cc)), new_step q h (acts.Enq r slip content origin n) k e)
 
 -- the link of a node is no draft word, and none of the first two words
-link_off : (t : Table) (q : Queue) (node : Node) → Stands t q → IsNode t node → (link_of t.rows node ≢ 0) × (link_of t.rows node ≢ 1) × ((k : ℕ) (x : DraftWord) → k < t.rows → draft_of k x ≢ link_of t.rows node)
+pub link_off : (t : Table) (q : Queue) (node : Node) → Stands t q → IsNode t node → (link_of t.rows node ≢ 0) × (link_of t.rows node ≢ 1) × ((k : ℕ) (x : DraftWord) → k < t.rows → draft_of k x ≢ link_of t.rows node)
 link_off t q (nodes.Head l) s low = (omega arith, omega arith, λ k x less. omega (arith, draft_high k x))
 link_off t q (nodes.Row a) s linked = (omega arith, omega arith, λ k x less. omega (arith, draft_low k x, draft_high k x))
 
 module _ {C : Type 0} (load : C → Load) (shape : Shape) where
   -- the cargo of the new row comes home
-  cargoes_entered : (homes : List (maybe.Option (Option C))) (q : Queue) (h r : ℕ) (slip : Slip) (c : C) → Can q h (acts.Enq r slip (load c).content (load c).origin (load c).count) → r < length homes → (load c).id ≡ slip.id → (load c).size ≡ slip.size → slip.key ≡ None
+  cargoes_entered : (homes : List (maybe.Option (Option C))) (q : Queue) (h r : ℕ) (slip : Slip) (c : C) → Can q h (acts.Enq r slip (load c).content (load c).origin (load c).count) → r < length homes → (load c).id ≡ slip.id → (load c).size ≡ slip.size
       → Cargoes load homes q → Cargoes load (set homes r (maybe.some (Some c))) (acted q h (acts.Enq r slip (load c).content (load c).origin (load c).count))
-  cargoes_entered homes q h r slip c can less same_id same_size unkeyed cargoes =
+  cargoes_entered homes q h r slip c can less same_id same_size cargoes =
       let l : Load = load c in
       let homes' : List (maybe.Option (Option C)) = set homes r (maybe.some (Some c)) in record {
         rows = λ k y e. ⊎_elim
@@ -105,10 +87,6 @@ module _ {C : Type 0} (load : C → Load) (shape : Shape) where
             subst (λ (z : Row). Lies load homes' k z z.state) (sym p.1)
             (c, subst (λ (i : ℕ). get_elem? homes' i ≡ maybe.some (maybe.some (Some c))) (sym p.0) (lists.set_here homes r (maybe.some (Some c)) less), record { id = same_id; size = same_size; count = refl; content = refl; origin = refl }))
             (λ (p : (k ≢ r) × (row_at q k ≡ Some y)). lies_else load homes r k (maybe.some (Some c)) y y.state p.0 (cargoes.rows k y p.1))
-            (found_entered q h r slip l.content l.origin l.count can k y e);
-        keyless = λ k y e. ⊎_elim
-            (λ (p : (k ≡ r) × (y ≡ entered r slip l.content l.origin l.count)). ap (λ (z : Row). z.slip.key) p.1 ∙ unkeyed)
-            (λ (p : (k ≢ r) × (row_at q k ≡ Some y)). cargoes.keyless k y p.1)
             (found_entered q h r slip l.content l.origin l.count can k y e);
         others = λ k within e. let p = none_entered q h r slip l.content l.origin l.count can k e in
             let wide = length-set homes r (maybe.some (Some c)) in bare_else load homes r k (maybe.some (Some c)) p.0 (cargoes.others k (omega (arith, within, wide)) p.1);
@@ -141,7 +119,7 @@ module _ {C : Type 0} (load : C → Load) (shape : Shape) where
     pub shape_now : (known.lists ≡ shape.lists) × (known.consumers ≡ shape.consumers)
     shape_now =
         let k = knows_me load shape s id v h ended is at r in
-        let more = lists_after known k.prefix.0 in
+        let more = lists_stay known k.prefix.0 in
         let all = after_seen load shape s id v h ended is at r in
         (sym more.0 ∙ ap (λ (z : Queue). z.lists) all ∙ sym r.stands.shaped.lists, sym more.1 ∙ ap (λ (z : Queue). z.consumers) all ∙ sym r.stands.shaped.consumers)
 
@@ -227,7 +205,7 @@ module _ {C : Type 0} (load : C → Load) (shape : Shape) where
             rows = length-set s.homes row (maybe.some (Some c)) ∙ r.rows;
             callers = set_else s.words i (suc row) 1 (λ e. off.1 (sym e));
             stands = both.1;
-            cargoes = cargoes_entered s.homes q k row (slip_of d) c both.0 less same_id same_size refl r.cargoes;
+            cargoes = cargoes_entered s.homes q k row (slip_of d) c both.0 less same_id same_size r.cargoes;
             drafts = views_set (Drafted words drawer) s.views id w
                 (λ j u ne e b y found. let z = r.drafts j u e b y found in let apart = other_draft load shape s id v h ended is at r row x.drew j u ne e b y found in
                 record { mine = z.mine; drew = but_else r.drawer row None b apart ∙ z.drew; written = λ o. words_off b o (drawn_low b (caller_of u.callers) z.drew) ∙ z.written o })
@@ -240,6 +218,7 @@ module _ {C : Type 0} (load : C → Load) (shape : Shape) where
             unwritten = λ j y less high. words_off j y less ∙ r.unwritten j y less (omega (arith, top, high));
             top = omega (arith, top);
             reaches = omega (arith, top, reached);
+            watches = watches_set shape q (by_me v a ∷ []) s.words words s.views id v w at refl (links_written shape q s.words i (suc row) (node_facts tab q node (list_of_node tab node) r.stands fits.node refl).long (λ f y named found. absurd (omega (arith, named, empty)))) r.watches;
             takes = takes_back s.homes r.outs s.views id row v w (Some c) at out refl r.takes;
             held = λ j e. let z : None ≡ Some j = e in absurd (cc);
             away = away_back s.homes r.outs s.views id row v w (Some c) less at out r.away;

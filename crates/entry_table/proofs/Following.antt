@@ -22,6 +22,7 @@ use Rattle.link_core.specs.Layout.{row_link_of, head_of}
 use Rattle.link_core.specs.Stands.{Points, Chain, Stands}
 use Rattle.link_core.specs.Steps.{shown as word_shown}
 use Rattle.link_core.specs.Table.{Table}
+use Rattle.link_core.proofs.InLists.{found_there, row_of_list}
 use Rattle.link_core.proofs.Leading.{chain_points, row_points}
 use Rattle.acts_core.specs.Walks.{node_at, reach, IsOfList, IsStop, AreDeleted, Follows, FollowsTo}
 use Rattle.acts_core.specs.Sight.{on_head}
@@ -49,7 +50,7 @@ module _ {X : Type 0} where
       let rest = position-behind p xs ys (find_none-tail p x xs e) in
       position-past p x (xs ++ ys) (find_none-head p x xs e) ∙ omega (arith, rest)
 
-  position_in : (p : X → Bool) (xs : List X) (y : X) → find p xs ≡ Some y → position_or_len p xs < length xs
+  pub position_in : (p : X → Bool) (xs : List X) (y : X) → find p xs ≡ Some y → position_or_len p xs < length xs
   position_in p [] y e = absurd (cc)
   position_in p (x ∷ xs) y e = ⊎_elim
       (λ (hit : p x ≡ true). omega (arith, position-here p x xs hit))
@@ -112,40 +113,6 @@ apart_front (x ∷ pre) y back apart =
     later_head : (n : ℕ) (pre : List Row) (y : Row) (back : List Row) → find (is_row n) (pre ++ y ∷ back) ≡ None → is_row n y ≡ false
     later_head n [] y back e = find_none-head (is_row n) y back e
     later_head n (z ∷ pre) y back e = later_head n pre y back (find_none-tail (is_row n) z (pre ++ y ∷ back) e)
-
--- a row that is found in a list of the queue is the queue's, and of that list
-row_of_list : (l n : ℕ) (xs : List Row) (y : Row) → Apart same_number xs → find (is_row n) (filter (is_of_list l) xs) ≡ Some y → (find (is_row n) xs ≡ Some y) × (y.slip.list ≡ l)
-row_of_list l n [] y apart e = absurd (cc)
-row_of_list l n (x ∷ xs) y apart e = ⊎_elim
-    (λ (mine : is_of_list l x ≡ true).
-    let kept : find (is_row n) (x ∷ filter (is_of_list l) xs) ≡ Some y = ap (find (is_row n)) (sym (cond-true (is_of_list l x) (x ∷ filter (is_of_list l) xs) (filter (is_of_list l) xs) mine)) ∙ e in
-    ⊎_elim
-    (λ (hit : is_row n x ≡ true).
-    let one : Some x ≡ Some y = sym (find-here (is_row n) x (filter (is_of_list l) xs) hit) ∙ kept in
-    let same : x ≡ y = cc in
-    (find-here (is_row n) x xs hit ∙ one, ap (λ (z : Row). z.slip.list) (sym same) ∙ eqb-true x.slip.list l mine))
-    (λ (miss : is_row n x ≡ false).
-    let t = row_of_list l n xs y apart.1 (sym (find-past (is_row n) x (filter (is_of_list l) xs) miss) ∙ kept) in
-    (find-past (is_row n) x xs miss ∙ t.0, t.1))
-    (cases_Bool (is_row n x)))
-    (λ (other : is_of_list l x ≡ false).
-    let rest : find (is_row n) (filter (is_of_list l) xs) ≡ Some y = ap (find (is_row n)) (sym (cond-false (is_of_list l x) (x ∷ filter (is_of_list l) xs) (filter (is_of_list l) xs) other)) ∙ e in
-    ⊎_elim
-    (λ (hit : is_row n x ≡ true).
-    let number : x.number ≡ n = eqb-true x.number n hit in
-    let none : find (is_row n) xs ≡ None = subst (λ (k : ℕ). find (is_row k) xs ≡ None) number apart.0 in
-    absurd (let bad : None ≡ Some y = sym (find_none-filter (is_row n) (is_of_list l) xs none) ∙ rest in cc))
-    (λ (miss : is_row n x ≡ false).
-    let t = row_of_list l n xs y apart.1 rest in
-    (find-past (is_row n) x xs miss ∙ t.0, t.1))
-    (cases_Bool (is_row n x)))
-    (cases_Bool (is_of_list l x))
-
--- a row of a list is found there, at its place
-found_there : (q : Queue) (l e : ℕ) (x : Row) → row_at q e ≡ Some x → x.slip.list ≡ l → (find (is_row e) (rows_of q l) ≡ Some x) × (place_at q e ≡ position_or_len (is_row e) (rows_of q l))
-found_there q l e x found list =
-    let same : list_at q e ≡ l = list_found q e x found ∙ list in
-    (subst (λ (m : ℕ). find (is_row e) (rows_of q m) ≡ Some x) same (found_in_list q e x found), ap (λ (m : ℕ). position_or_len (is_row e) (rows_of q m)) same)
 
 -- What points
 

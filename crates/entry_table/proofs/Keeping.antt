@@ -24,7 +24,7 @@ use Rattle.entry_table.specs.declared.view.View.{View}
 use Rattle.entry_table.specs.Views.{Has, caller_of, takes_of, concerns, concerning, AllEnd}
 use Rattle.std.proofs.lemmas.List.Elements.{filter-append}
 use Rattle.entry_table.proofs.Concerning.{has_in, none_concern, all_concern}
-use Rattle.entry_table.specs.Rule.{table_at, Cargoes, Knows, Drafted, Unwritten, Takes, Holds, Away, Each, RuledAt, Ruled, allowance, share}
+use Rattle.entry_table.specs.Rule.{table_at, Cargoes, Knows, Drafted, Unwritten, Takes, Watches, Holds, Away, Each, RuledAt, Ruled, allowance, share}
 use Rattle.entry_table.specs.Plays.{Within, Went}
 use Rattle.entry_table.proofs.Frames.{takes-append, knows_set, serves_set, tells_set, reaches_set, holds_set, alone_set, counts_set}
 
@@ -88,7 +88,7 @@ module _ {C : Type 0} (load : C → Load) (shape : Shape) where
     pub drawn_low : (j k : ℕ) → r.drawer j ≡ Some k → j < shape.rows
     drawn_low j k e = let under = r.stands.draws.low j k e in let tops = r.stands.draws.top in omega (arith, under, tops)
 
-    legal_more : Legal (after v.opening v.seen) knows_me.prefix.0
+    pub legal_more : Legal (after v.opening v.seen) knows_me.prefix.0
     legal_more = legal_rest v.opening v.seen knows_me.prefix.0 (subst (Legal v.opening) (sym knows_me.prefix.1) r.legal)
 
     -- what the caller holds by its own view it holds in the whole history
@@ -144,6 +144,7 @@ module _ {C : Type 0} (load : C → Load) (shape : Shape) where
       pub unwritten : Unwritten shape.rows words
       pub top : slice_index s.words 0 ≤ slice_index words 0
       pub reaches : w.reached ≤ slice_index words 0
+      pub watches : Each (Watches shape words (after now ds)) (set s.views id w)
       pub takes : Each (Takes homes outs) (set s.views id w)
       pub held : Holds (after now ds) id w
       pub away : Away homes outs (set s.views id w)
@@ -173,6 +174,7 @@ module _ {C : Type 0} (load : C → Load) (shape : Shape) where
           drafts = n.drafts;
           unwritten = n.unwritten;
           reaches = reaches_set (slice_index s.words 0) (slice_index words 0) s.views id w n.top n.reaches r.reaches;
+          watches = subst (λ (q : Queue). Each (Watches shape words q) (set s.views id w)) moved n.watches;
           takes = n.takes;
           held = subst (λ (q : Queue). Each (Holds q) (set s.views id w)) moved (holds_set shape v.opening now r.seats (slice_index s.words 1) id H ds s.views w n.legal idle r.knows n.held r.held);
           away = n.away;

@@ -127,7 +127,6 @@ module _ {C : Type 0} (load : C → Load) where
         links = subst (λ (n : ℕ). Rattle.link_core.specs.Stands.Links shape.rows n words q) s.shaped.lists s.links;
         below = below;
         few = few_rows shape q (record { sound = s.sound; lists = sym s.shaped.lists; consumers = sym s.shaped.consumers; low = below });
-        keys = cargoes.keyless;
       }
 
 module _ {C : Type 0} (load : C → Load) (shape : Shape) where

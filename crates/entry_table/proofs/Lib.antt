@@ -1,4 +1,5 @@
 pub mod Frames
+pub mod Onwards
 pub mod Concerning
 pub mod Keeping
 pub mod Looking
@@ -28,5 +29,8 @@ pub mod Giving
 pub mod Bringing
 pub mod Sighting
 pub mod Following
+pub mod Lasting
+pub mod Skipped
+pub mod Marked
 pub mod Later
 pub mod Serving

@@ -24,9 +24,10 @@ use Rattle.link_core.specs.Stands.{Stands}
 use Rattle.entry_table.specs.declared.view.Shape.{Shape}
 use Rattle.entry_table.specs.declared.view.View.{View}
 use Rattle.entry_table.specs.Views.{reached_by, takes_of, AllEnd}
-use Rattle.entry_table.specs.Rule.{table_at, Cargoes, Holds, RuledAt, Ruled, allowance, share}
+use Rattle.entry_table.specs.Rule.{table_at, Cargoes, Each, Holds, Watches, RuledAt, Ruled, allowance, share}
 use Rattle.entry_table.specs.Plays.{looked, looked_view}
 use Rattle.entry_table.proofs.Frames.{sum_views, drafts_set, takes_set, away_set}
+use Rattle.entry_table.proofs.Onwards.{links_same, watches_set}
 use Rattle.entry_table.proofs.Keeping.{Same, opened, now, me, drawn_low, sees_all, ruled_next, went}
 
 module _ {C : Type 0} (load : C → Load) (shape : Shape) where
@@ -38,8 +39,9 @@ module _ {C : Type 0} (load : C → Load) (shape : Shape) where
         → slice_index words 0 ≡ slice_index s.words 0 → slice_index words 1 ≡ slice_index s.words 1 → ((k : ℕ) (x : DraftWord) → k < shape.rows → slice_index words (draft_of k x) ≡ slice_index s.words (draft_of k x))
         → Stands (table_at shape words r.drawer reserved) (after (now load shape s id v h ended is at r) ds) → Cargoes load s.homes (after (now load shape s id v h ended is at r) ds)
         → sum_by allowance (set s.views id w) + entries (after (now load shape s id v h ended is at r) ds) ≤ 524288
+        → Each (Watches shape words (after (now load shape s id v h ended is at r) ds)) (set s.views id w)
         → RuledAt load shape v.opening record { words = words; homes = s.homes; views = set s.views id w }
-    plain ds w words reserved enders seen same drawn told slot held kept reached legal mine bells ends tops callers drafts stands cargoes allowed =
+    plain ds w words reserved enders seen same drawn told slot held kept reached legal mine bells ends tops callers drafts stands cargoes allowed watches =
         let shares = sum_views share s.views id v w at in
         let shared : sum_by share s.views + slice_index s.words 0 ≤ shape.rows = r.shared in
         ruled_next load shape s id v h ended is at r ds w words s.homes r.drawer reserved r.outs enders record {
@@ -58,6 +60,7 @@ module _ {C : Type 0} (load : C → Load) (shape : Shape) where
           unwritten = λ k x less high. drafts k x less ∙ r.unwritten k x less (subst (λ (t : ℕ). t ≤ k) tops high);
           top = omega (arith, tops);
           reaches = omega (arith, tops, reached);
+          watches = watches;
           takes = takes_set s.homes r.outs s.views id v w at slot r.takes;
           held = held;
           away = λ k e. away_set s.views id v w (r.outs k) k at slot (r.away k e);
@@ -74,7 +77,8 @@ module _ {C : Type 0} (load : C → Load) (shape : Shape) where
         let allowed : sum_by allowance s.views + entries (after v.opening r.history) ≤ 524288 = r.allowed in
         subst (λ (l : List ℕ). RuledAt load shape v.opening record { words = l; homes = s.homes; views = set s.views id w }) (sym is_same)
         (plain [] w s.words r.reserved r.enders all (record { shape = refl; opening = refl; callers = refl; made = refl; alone = refl; consumers = refl }) refl refl refl (r.held id v at) refl reached tt (λ k ne. refl) (λ c ne. refl) (subst (AllEnd r.enders) all r.ends)
-        refl refl (λ k x less. refl) r.stands r.cargoes (omega (arith, sums, allowed)))
+        refl refl (λ k x less. refl) r.stands r.cargoes (omega (arith, sums, allowed))
+        (watches_set shape (now load shape s id v h ended is at r) [] s.words s.words s.views id v w at refl (links_same shape (now load shape s id v h ended is at r) s.words) r.watches))
 
   -- what a step shows of the rows that were drawn
   pub reached_low : (step : Step) (v : View) (t : Table) → v.reached ≤ top t → (v.reached ≤ reached_by step (shown t step) v.reached) × (reached_by step (shown t step) v.reached ≤ top t)
@@ -93,6 +97,10 @@ module _ {C : Type 0} (load : C → Load) (shape : Shape) where
   reached_low (steps.Load (names.State r)) v t low = (omega arith, low)
   reached_low (steps.Load (names.Draft r w)) v t low = (omega arith, low)
   reached_low (steps.State r change from) v t low = (omega arith, low)
+  reached_low (steps.Unlink at from to) v t low = (omega arith, low)
+  reached_low (steps.Mark l n) v t low = (omega arith, low)
+  reached_low (steps.Count l) v t low = (omega arith, low)
+  reached_low (steps.Reset l) v t low = (omega arith, low)
   reached_low (steps.Reserve size) v t low = (omega arith, low)
   reached_low (steps.GiveBack size) v t low = (omega arith, low)
 

@@ -23,7 +23,7 @@ use Rattle.link_core.proofs.Making.{fresh_stands}
 use Rattle.entry_table.specs.declared.view.Shape.{Shape}
 use Rattle.entry_table.specs.declared.view.View.{View}
 use Rattle.entry_table.specs.Views.{Has, state_in}
-use Rattle.entry_table.specs.Rule.{below, boss, table_at, Cargoes, Each, Knows, Serves, Tells, Drafted, Unwritten, Takes, Holds, Alone, Counts, RuledAt, Ruled, allowance, share}
+use Rattle.entry_table.specs.Rule.{below, boss, table_at, Cargoes, Each, Knows, Serves, Tells, Drafted, Unwritten, Takes, Watches, Holds, Alone, Counts, RuledAt, Ruled, allowance, share}
 use Rattle.entry_table.specs.Plays.{opened_view, opened as opened_by}
 use Rattle.entry_table.proofs.Frames.{at_less, sum_views}
 use Rattle.entry_table.proofs.Parting.{has_append}
@@ -123,7 +123,7 @@ module _ {C : Type 0} (load : C → Load) (shape : Shape) where
             draws = s.draws;
             reserved = s.reserved;
           };
-          cargoes = record { rows = λ r x e. absurd (cc); keyless = λ r x e. absurd (cc); others = λ r lt e. let wide = empty_length C shape.rows in inr (empty_at C shape.rows r (omega (arith, lt, wide))) };
+          cargoes = record { rows = λ r x e. absurd (cc); others = λ r lt e. let wide = empty_length C shape.rows in inr (empty_at C shape.rows r (omega (arith, lt, wide))) };
           knows = only (Knows shape (empty shape.lists shape.consumers) [] (λ k. 0) (slice_index (fresh_words 1 shape.rows shape.lists) 1)) (boss shape) (record {
             prefix = ([], refl);
             opens = λ k has. (refl, refl);
@@ -134,6 +134,7 @@ module _ {C : Type 0} (load : C → Load) (shape : Shape) where
           drafts = only (Drafted (fresh_words 1 shape.rows shape.lists) (λ r. None)) (boss shape) (λ r d found. let z : None ≡ Some d = found in absurd (cc));
           unwritten = fresh_unwritten 1 shape.rows shape.lists;
           reaches = only (λ id v. v.reached ≤ slice_index (fresh_words 1 shape.rows shape.lists) 0) (boss shape) (omega arith);
+          watches = only (Watches shape (fresh_words 1 shape.rows shape.lists) (empty shape.lists shape.consumers)) (boss shape) (λ w e. let z : None ≡ Some w = e in absurd (cc));
           takes = only (Takes (map some (replicate {A = Option C} shape.rows None)) (λ k. 0)) (boss shape) (λ r e. let z : None ≡ Some r = e in absurd (cc));
           held = only (Holds (empty shape.lists shape.consumers)) (boss shape) (λ r e. let z : None ≡ Some r = e in absurd (cc));
           away = λ r e. absurd (none_out C shape.rows r e);
@@ -188,6 +189,7 @@ module _ {C : Type 0} (load : C → Load) (shape : Shape) where
             drafts = Rattle.entry_table.proofs.Frames.views_set (Drafted s.words r.drawer) s.views id w (λ j u ne e. absurd (none_else j u ne e)) (λ i d found. let t = r.drafts id v at i d found in record { mine = t.mine; drew = t.drew; written = t.written });
             unwritten = r.unwritten;
             reaches = Rattle.entry_table.proofs.Frames.views_set (λ j u. u.reached ≤ slice_index s.words 0) s.views id w (λ j u ne e. absurd (none_else j u ne e)) (r.reaches id v at);
+            watches = Rattle.entry_table.proofs.Frames.views_set (Watches shape s.words O) s.views id w (λ j u ne e. absurd (none_else j u ne e)) (λ x e. let z : None ≡ Some x = e in absurd (cc));
             takes = Rattle.entry_table.proofs.Frames.takes_set s.homes r.outs s.views id v w at refl r.takes;
             held = Rattle.entry_table.proofs.Frames.views_set (Holds O) s.views id w (λ j u ne e. absurd (none_else j u ne e)) (Rattle.entry_table.proofs.Frames.holds_idle O id w idle);
             away = λ j e. Rattle.entry_table.proofs.Frames.away_set s.views id v w (r.outs j) j at refl (r.away j e);

@@ -24,10 +24,11 @@ use Rattle.link_core.proofs.Counting.{callers_kept}
 use Rattle.entry_table.specs.declared.view.Shape.{Shape}
 use Rattle.entry_table.specs.declared.view.View.{View}
 use Rattle.entry_table.specs.Views.{Has, is_in, caller_of, takes_of, longer, spent, told_of}
-use Rattle.entry_table.specs.Rule.{table_at, Each, Knows, Serves, IsTold, Tells, Drafted, Reaches, Takes, Holds, Alone, Counts, RuledAt, Ruled, allowance, share}
+use Rattle.entry_table.specs.Rule.{table_at, Each, Knows, Serves, IsTold, Tells, Drafted, Reaches, Takes, Watches, Holds, Alone, Counts, RuledAt, Ruled, allowance, share}
 use Rattle.entry_table.specs.Plays.{numbered, numbered_view, behind, cut_left, cut_right, drop_second, second_of, merged, noted_left, note}
 use Rattle.entry_table.proofs.Frames.{views_set, sum_views, away_set, not_alone, takes_set, reaches_set, alone_set, takes-append, serves_set, holds_idle}
 use Rattle.entry_table.proofs.Concerning.{has_in, in_has}
+use Rattle.entry_table.proofs.Onwards.{links_off, watches_set}
 use Rattle.entry_table.proofs.Keeping.{opened, went}
 
 -- Lists of numbers
@@ -168,6 +169,7 @@ module _ {C : Type 0} (load : C → Load) (shape : Shape) where
             });
         unwritten = λ i x few high. off i x ∙ r.unwritten i x few (omega (arith, top, high));
         reaches = let low = r.reaches id v at in reaches_set (slice_index s.words 0) (slice_index words' 0) s.views id w (omega (arith, top)) (omega (arith, top, low)) r.reaches;
+        watches = watches_set shape q [] s.words words' s.views id v w at refl (links_off shape q s.words 1 (n + 1) (λ l lt. omega arith) (λ i less. omega arith)) r.watches;
         takes = takes_set s.homes r.outs s.views id v w at refl r.takes;
         held = views_set (Holds q) s.views id w (λ j u ne e. r.held j u e) (holds_idle q id w idle);
         away = λ i e. away_set s.views id v w (r.outs i) i at refl (r.away i e);
@@ -261,6 +263,7 @@ module _ {C : Type 0} (load : C → Load) (shape : Shape) where
               (λ i d found. let z : None ≡ Some d = found in absurd (cc));
           unwritten = r.unwritten;
           reaches = views_more (Reaches (slice_index s.words 0)) (set s.views id left) right (views_set (Reaches (slice_index s.words 0)) s.views id left (λ j u ne e. r.reaches j u e) (r.reaches id v at)) (r.reaches id v at);
+          watches = views_more (Watches shape s.words q) (set s.views id left) right (views_set (Watches shape s.words q) s.views id left (λ j u ne e. r.watches j u e) (r.watches id v at)) (λ x e. let z : None ≡ Some x = e in absurd (cc));
           takes = views_more (Takes s.homes r.outs) (set s.views id left) right (views_set (Takes s.homes r.outs) s.views id left (λ j u ne e. r.takes j u e) (r.takes id v at)) (λ i e. let z : None ≡ Some i = e in absurd (cc));
           held = views_more (Holds q) (set s.views id left) right (views_set (Holds q) s.views id left (λ j u ne e. r.held j u e) (holds_idle q id left idle)) (λ i e. let z : None ≡ Some i = e in absurd (cc));
           away = λ i e. let a = away_set s.views id v left (r.outs i) i at refl (r.away i e) in (a.0, at_longer (set s.views id left) (right ∷ []) (r.outs i) a.0 a.1, a.2);
@@ -369,6 +372,9 @@ module _ {C : Type 0} (load : C → Load) (shape : Shape) where
               (λ i d found. let z : None ≡ Some d = found in absurd (cc));
           unwritten = r.unwritten;
           reaches = views_set (Reaches (slice_index s.words 0)) (set s.views id both) other spent (λ j u ne e. views_set (Reaches (slice_index s.words 0)) s.views id both (λ i x off f. r.reaches i x f) (r.reaches id v at) j u e) (omega arith);
+          watches = views_set (Watches shape s.words q) (set s.views id both) other spent
+              (λ j u ne e. views_set (Watches shape s.words q) s.views id both (λ i x off f. r.watches i x f) (r.watches id v at) j u e)
+              (λ x e. let z : None ≡ Some x = e in absurd (cc));
           takes = views_set (Takes s.homes r.outs) (set s.views id both) other spent
               (λ j u ne e. views_set (Takes s.homes r.outs) s.views id both (λ i x off f. r.takes i x f) (r.takes id v at) j u e)
               (λ i e. let z : None ≡ Some i = e in absurd (cc));
@@ -425,6 +431,7 @@ module _ {C : Type 0} (load : C → Load) (shape : Shape) where
           drafts = views_more (Drafted s.words r.drawer) (set s.views id left) right (views_set (Drafted s.words r.drawer) s.views id left (λ j u ne e. r.drafts j u e) (λ i d found. let t = r.drafts id v at i d found in record { mine = t.mine; drew = t.drew; written = t.written })) (λ i d found. let z : None ≡ Some d = found in absurd (cc));
           unwritten = r.unwritten;
           reaches = views_more (Reaches (slice_index s.words 0)) (set s.views id left) right (views_set (Reaches (slice_index s.words 0)) s.views id left (λ j u ne e. r.reaches j u e) (r.reaches id v at)) (omega arith);
+          watches = views_more (Watches shape s.words q) (set s.views id left) right (views_set (Watches shape s.words q) s.views id left (λ j u ne e. r.watches j u e) (r.watches id v at)) (λ x e. let z : None ≡ Some x = e in absurd (cc));
           takes = views_more (Takes s.homes r.outs) (set s.views id left) right (views_set (Takes s.homes r.outs) s.views id left (λ j u ne e. r.takes j u e) (r.takes id v at)) (λ i e. let z : None ≡ Some i = e in absurd (cc));
           held = views_more (Holds q) (set s.views id left) right (views_set (Holds q) s.views id left (λ j u ne e. r.held j u e) (holds_idle q id left idle)) (λ i e. let z : None ≡ Some i = e in absurd (cc));
           away = λ i e. let a = away_set s.views id v left (r.outs i) i at refl (r.away i e) in (a.0, at_longer (set s.views id left) (right ∷ []) (r.outs i) a.0 a.1, a.2);

@@ -16,6 +16,7 @@ use Rattle.acts_core.specs.declared.cargoes.RestEntry.{RestEntry}
 use Rattle.acts_core.specs.Load.{Load}
 use Rattle.acts_core.specs.Rest as kept
 use Rattle.acts_core.specs.Sight.{Listed}
+use Rattle.link_core.specs.Stands.{Drafts}
 use Rattle.entry_table.specs.Resting.{is_live, live, rests, IsRest, AreGathered}
 use Rattle.entry_table.proofs.Closing.{all_found, of_list}
 use Rattle.entry_table.proofs.Ends.{list_is, place_is}
@@ -165,3 +166,13 @@ module _ {C : Type 0} (load : C → Load) (q : Queue) where
     whole = rests_whole load q apart n low;
     ordered = rests_ordered load q apart n;
   }
+
+  -- the rows of a linked queue have no keys, and so their entries have none
+  keyless : (words : List ℕ) (es : List (RestEntry C)) (xs : List Row) → Drafts words q → AllByRecursion (kept.IsLive q) xs → AreGathered load es xs → AllByRecursion (λ (e : RestEntry C). e.slip.key ≡ None) es
+  keyless words [] [] drafted lives all = tt
+  keyless words [] (x ∷ xs) drafted lives all = absurd all
+  keyless words (e ∷ es) [] drafted lives all = absurd all
+  keyless words (e ∷ es) (x ∷ xs) drafted lives all = (all.0.key ∙ (drafted x.number x lives.0.there).key, keyless words es xs drafted lives.1 all.1)
+
+  pub no_keys : (words : List ℕ) (n : ℕ) (es : List (RestEntry C)) → Apart same_number q.rows → Drafts words q → AreGathered load es (rests n q) → AllByRecursion (λ (e : RestEntry C). e.slip.key ≡ None) es
+  no_keys words n es apart drafted all = keyless words es (rests n q) drafted (rests_live load q apart n) all

@@ -30,6 +30,7 @@ use Rattle.entry_table.specs.Rule.{table_at, RuledAt, Ruled, allowance}
 use Rattle.entry_table.specs.Plays.{DepthShown, by_me, Deepens, depth_view, reserved, reserves, gave_back}
 use Rattle.entry_table.proofs.Frames.{sum_views, in_sum, holds_idle}
 use Rattle.entry_table.proofs.Keeping.{opened, now, me, knows_me, went, mine_alone, reserved_now}
+use Rattle.entry_table.proofs.Onwards.{links_off, watches_set}
 use Rattle.entry_table.proofs.Looking.{plain}
 
 -- one deed more
@@ -65,7 +66,8 @@ module _ {C : Type 0} (load : C → Load) (shape : Shape) where
       (kept.0, tt) (mine_alone load shape s id v h ended is at r a) (λ c ne. refl) (ends_more r.enders H (by_me v a) r.ends tt)
       (get_or-set_other s.words 2 0 (n + (entry_worth + size)) 0 (λ e. omega arith)) (get_or-set_other s.words 2 1 (n + (entry_worth + size)) 0 (λ e. omega arith))
       (λ i x less. get_or-set_other s.words 2 (draft_of i x) (n + (entry_worth + size)) 0 (λ e. omega (arith, draft_low i x)))
-      kept.1 (record { rows = r.cargoes.rows; keyless = r.cargoes.keyless; others = r.cargoes.others }) (omega (arith, sums, allowed, more.0, part, room)) in (
+      kept.1 (record { rows = r.cargoes.rows; others = r.cargoes.others }) (omega (arith, sums, allowed, more.0, part, room))
+      (watches_set shape q (by_me v a ∷ []) s.words words s.views id v w at refl (links_off shape q s.words 2 (n + (entry_worth + size)) (λ l lt. omega arith) (λ i less. omega arith)) r.watches) in (
         w,
         keeps,
         tt,
@@ -100,7 +102,8 @@ module _ {C : Type 0} (load : C → Load) (shape : Shape) where
       (kept.0, tt) (mine_alone load shape s id v h ended is at r a) (λ c ne. refl) (ends_more r.enders H (by_me v a) r.ends tt)
       (get_or-set_other s.words 2 0 (n - (entry_worth + size)) 0 (λ e. omega arith)) (get_or-set_other s.words 2 1 (n - (entry_worth + size)) 0 (λ e. omega arith))
       (λ i x less. get_or-set_other s.words 2 (draft_of i x) (n - (entry_worth + size)) 0 (λ e. omega (arith, draft_low i x)))
-      kept.1 (record { rows = r.cargoes.rows; keyless = r.cargoes.keyless; others = r.cargoes.others }) (omega (arith, sums, allowed, less.0)) in (
+      kept.1 (record { rows = r.cargoes.rows; others = r.cargoes.others }) (omega (arith, sums, allowed, less.0))
+      (watches_set shape q (by_me v a ∷ []) s.words words s.views id v w at refl (links_off shape q s.words 2 (n - (entry_worth + size)) (λ l lt. omega arith) (λ i less. omega arith)) r.watches) in (
         w,
         keeps,
         tt,

@@ -18,7 +18,8 @@ use Rattle.entry_table.specs.Rule.{IsTold, RuledAt, Ruled, allowance, share}
 use Rattle.entry_table.specs.Plays.{Went, Learns, Joined, merged, settled, settled_view}
 use Rattle.entry_table.proofs.Concerning.{none_concern}
 use Rattle.entry_table.proofs.Frames.{sum_views, in_sum}
-use Rattle.entry_table.proofs.Keeping.{opened, went, no_takes, first_has}
+use Rattle.entry_table.proofs.Keeping.{opened, now, went, no_takes, first_has}
+use Rattle.entry_table.proofs.Onwards.{links_same, watches_set}
 use Rattle.entry_table.proofs.Looking.{plain}
 
 learns : (H : List Deed) (v : View) (t : Told) → IsTold H v t → Learns t H
@@ -55,7 +56,8 @@ module _ {C : Type 0} (load : C → Load) (shape : Shape) where
           v.opening,
           subst (λ (l : List ℕ). RuledAt load shape v.opening record { words = l; homes = s.homes; views = set s.views id w }) (sym (set-get_or s.words i 0))
               (plain load shape s id v h ended is at r [] w s.words r.reserved r.enders all (record { shape = refl; opening = refl; callers = refl; made = refl; alone = refl; consumers = refl }) refl refl refl (r.held id v at) refl reached tt (λ k ne. refl) (λ c ne. refl) (subst (AllEnd r.enders) all r.ends)
-              refl refl (λ k x less. refl) r.stands r.cargoes (omega (arith, sums, allowed))),
+              refl refl (λ k x less. refl) r.stands r.cargoes (omega (arith, sums, allowed))
+              (watches_set shape (now load shape s id v h ended is at r) [] s.words s.words s.views id v w at refl (links_same shape (now load shape s id v h ended is at r) s.words) r.watches)),
         ),
         (
           refl,

@@ -28,6 +28,7 @@ use Rattle.entry_table.specs.Views.{Has, caller_of, drawing_at, Mine, reached_by
 use Rattle.entry_table.specs.Rule.{table_at, Bare, Lies, Cargoes, Each, Takes, Holds, Away, RuledAt, Ruled, allowance, share}
 use Rattle.entry_table.specs.Plays.{fetched, given, slotted_view}
 use Rattle.entry_table.proofs.Frames.{views_set, set_at, same_view, sum_views, drafts_set}
+use Rattle.entry_table.proofs.Onwards.{links_same, watches_set}
 use Rattle.entry_table.proofs.Keeping.{opened, now, me, drawn_low, has_me, held_now, sees_same, ruled_next}
 use Rattle.entry_table.proofs.Looking.{reached_low}
 
@@ -112,7 +113,6 @@ module _ {C : Type 0} (load : C → Load) where
             subst (λ (z : RowState). Lies load (set homes row o) r y z) (sym state) (subst (Bare load (set homes row o)) (sym hit) here)) kind)
             (λ (miss : r ≢ row). lies_else homes row r o y y.state miss (c.rows r y e))
             (cases_eq r row);
-        keyless = c.keyless;
         others = λ r within e. ⊎_elim
             (λ (hit : r ≡ row). subst (Bare load (set homes row o)) (sym hit) here)
             (λ (miss : r ≢ row). bare_else homes row r o miss (c.others r (let same = length-set homes row o in omega (arith, within, same)) e))
@@ -205,6 +205,7 @@ module _ {C : Type 0} (load : C → Load) (shape : Shape) where
           unwritten = r.unwritten;
           top = omega arith;
           reaches = reached;
+          watches = watches_set shape (now load shape s id v h ended is at r) [] s.words s.words s.views id v w at refl (links_same shape (now load shape s id v h ended is at r) s.words) r.watches;
           takes = taking;
           held = held;
           away = away;

@@ -31,6 +31,7 @@ use Rattle.entry_table.specs.Plays.{IsKnown, Within, looked}
 use Rattle.entry_table.specs.Helps.{Helpable, HelpableTo, tail_after, help_view, helped}
 use Rattle.entry_table.proofs.Frames.{sum_views}
 use Rattle.entry_table.proofs.Keeping.{opened, now, me, went}
+use Rattle.entry_table.proofs.Onwards.{links_off, watches_set}
 use Rattle.entry_table.proofs.Looking.{plain, miss_owes, by_found}
 use Rattle.entry_table.proofs.Entering.{shape_now, node_now, node_place}
 
@@ -83,7 +84,8 @@ module _ {C : Type 0} (load : C → Load) (shape : Shape) where
         (
           v.opening,
           plain load shape s id v h ended is at r [] w words reserved r.enders all (record { shape = refl; opening = refl; callers = refl; made = refl; alone = refl; consumers = refl }) refl refl refl (r.held id v at) refl reached tt (λ j ne. refl) (λ c ne. refl) (subst (AllEnd r.enders) all r.ends)
-              top (set_else s.words i (suc row) 1 (omega arith)) off stands r.cargoes (omega (arith, sums, allowed)),
+              top (set_else s.words i (suc row) 1 (omega arith)) off stands r.cargoes (omega (arith, sums, allowed))
+              (watches_set shape q [] s.words words s.views id v w at refl (links_off shape q s.words i (suc row) (λ m less. omega arith) (λ j less. omega arith)) r.watches),
         ),
         (refl, went load shape s id v h ended is at r w [] words r.drawer reserved all tt refl (λ j ne. refl) stands (omega arith) (omega (arith, reached, top)), refl),
       ))

@@ -1,5 +1,5 @@
 -- what contracts see of a pass and of a table
-use Rattle.std.specs.Prelude.{◌≡◌, ℕ, None, List, []}
+use Rattle.std.specs.Prelude.{◌≡◌, ℕ, ◌<◌, None, List, [], ◌∷◌}
 use Rattle.queue_model.specs.declared.deeds.Act.{Act}
 use Rattle.queue_model.specs.declared.deeds.Deed.{Deed}
 use Rattle.queue_model.specs.declared.queues.Queue.{Queue}
@@ -9,13 +9,14 @@ use Rattle.queue_model.specs.State.{nothing}
 use Rattle.queue_model.specs.declared.queues.Depth.{Depth}
 use Rattle.queue_model.specs.declared.steps.Step.{Step}
 use Rattle.link_core.specs.Steps as fitting
+use Rattle.acts_core.specs.Asked.{most_callers}
 use Rattle.entry_table.specs.declared.view.Drawing.{Drawing}
 use Rattle.entry_table.specs.declared.view.Shape.{Shape}
 use Rattle.queue_model.specs.declared.steps.Tried.{Tried}
 use Rattle.entry_table.specs.declared.view.View.{View}
 use Rattle.entry_table.specs.declared.pass.Pass.{Pass}
 use Rattle.entry_table.specs.declared.entries.Entries.{Entries}
-use Rattle.entry_table.specs.Views.{view_in, state_in}
+use Rattle.entry_table.specs.Views.{view_in, state_in, rest_of}
 use Rattle.entry_table.specs.Rule.{table_at}
 use Rattle.entry_table.specs.Plays.{Steps, DepthShown}
 
@@ -70,6 +71,14 @@ pub record Kept (old new : Pass) : Type 0 where
   pub callers : callers new ≡ callers old
   pub made : (view new).made ≡ (view old).made
   pub consumers : consumers new ≡ consumers old
+
+-- what the pass may still reserve and draw stays, and so do the rows that it drew and has not linked
+abbrev pub KeepsRights : Pass → Pass → Type 0
+KeepsRights old new = (allowance new ≡ allowance old) × (share new ≡ share old) × (drawn new ≡ drawn old)
+
+-- the caller of this view, whose number a state word has room for
+abbrev pub SpeaksBy : ℕ → View → Type 0
+SpeaksBy caller v = (v.callers ≡ caller ∷ rest_of v.callers) × (caller < most_callers)
 
 -- The caller of the pass did these acts, and its pass has seen more.
 abbrev pub Did : Pass → Pass → List Act → Type 0

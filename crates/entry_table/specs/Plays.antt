@@ -24,13 +24,13 @@ use Rattle.queue_model.specs.declared.steps.Change.TheVariants as changes
 use Rattle.queue_model.specs.State.{IsIn}
 use Rattle.queue_model.specs.History.{after, Legal, own, deed}
 use Rattle.acts_core.specs.Load.{Load}
+use Rattle.acts_core.specs.Moments.{IsLoadOf}
 use Rattle.queue_model.specs.State.{row_at, list_at, place_at, reserved_by, entries, bytes, depth}
 use Rattle.queue_model.specs.Sound.{Sound}
 use Rattle.queue_model.specs.Table.{CanGive, most_bytes}
 use Rattle.queue_model.specs.declared.rows.Row.{Row}
 use Rattle.queue_model.specs.declared.rows.RowState.{RowState}
 use Rattle.queue_model.specs.declared.steps.Change.{Change}
-use Rattle.entry_table.specs.Rule.{Carries}
 use Rattle.link_core.specs.Steps.{shown, goes_to, act_with}
 use Rattle.entry_table.specs.declared.view.Shape.{Shape}
 use Rattle.queue_model.specs.Packing.{pack_state, pack_depth, entry_worth}
@@ -213,7 +213,7 @@ abbrev pub cut_left : ℕ → List ℕ → View → View
 cut_left n cs v = record v { alone = false; callers = drop_second v.callers; consumers = not_in cs v.consumers; allowance = v.allowance - n; share = v.share - n; told = [] }
 
 abbrev pub cut_right : ℕ → List ℕ → View → View
-cut_right n cs v = record { shape = v.shape; opening = v.opening; callers = second_of v.callers ∷ []; made = 0; alone = false; consumers = cs; allowance = n; share = n; reached = v.reached; drawn = []; slot = None; told = []; seen = v.seen; shown = [] }
+cut_right n cs v = record { shape = v.shape; opening = v.opening; callers = second_of v.callers ∷ []; made = 0; alone = false; consumers = cs; allowance = n; share = n; reached = v.reached; drawn = []; slot = None; told = []; watched = None; seen = v.seen; shown = [] }
 
 -- what a pass keeps when another pass is given a note of what it has seen, and the note
 abbrev pub noted_left : View → View
@@ -263,13 +263,13 @@ pub record Met (v w u : View) : Type 0 where
 pub record DidSplit (v w u : View) (cs : List ℕ) (n : ℕ) : Type 0 where
   pub went : Went v w []
   pub boss : w ≡ record v { made = v.made + 1; alone = false; consumers = not_in cs v.consumers; allowance = v.allowance - n; share = v.share - n; told = []; seen = w.seen }
-  pub new : u ≡ record { shape = v.shape; opening = v.opening; callers = v.made ∷ []; made = 0; alone = false; consumers = cs; allowance = n; share = n; reached = v.reached; drawn = []; slot = None; told = []; seen = w.seen; shown = [] }
+  pub new : u ≡ record { shape = v.shape; opening = v.opening; callers = v.made ∷ []; made = 0; alone = false; consumers = cs; allowance = n; share = n; reached = v.reached; drawn = []; slot = None; told = []; watched = None; seen = w.seen; shown = [] }
 
 -- The opening
 
 -- the view after the opening was laid down: the state that the pass had seen
 abbrev pub opened_view : View → View
-opened_view v = record v { opening = state_in v; told = []; seen = []; shown = [] }
+opened_view v = record v { opening = state_in v; told = []; watched = None; seen = []; shown = [] }
 
 abbrev pub opened : {S : Type 0} → Me S View → ℕ → Me S View → Type 0
 opened m n m' = (m'.1 ≡ m.1) × (m'.0 ≡ opened_view m.0)
@@ -442,7 +442,7 @@ pub record DidChange (v w : View) (row : ℕ) (change : Change) (from : RowState
 -- a change that takes the row's cargo out: its slot is then out with the pass
 abbrev pub took : {C : Type 0} → (C → Load) → ℕ → Change → RowState → Me (Option C) View → ℕ → Me (Option C) View → Type 0
 took {C} load row change from m n m' =
-    (n ≡ pack_state from → (c : C) × (x : Row) × Carries (load c) x × (m'.1 ≡ (row, Some c) ∷ m.1) × DidChange m.0 m'.0 row change from (Some row) (act_with 0 change row) x)
+    (n ≡ pack_state from → (c : C) × (x : Row) × IsLoadOf x (load c) × (m'.1 ≡ (row, Some c) ∷ m.1) × DidChange m.0 m'.0 row change from (Some row) (act_with 0 change row) x)
     × (n ≢ pack_state from → looked (steps.State row change from) m n m')
 
 -- a change that brings the cargo home: it cannot miss, since the pass holds the row
@@ -476,5 +476,5 @@ pub record ShowsState (v w : View) (row : ℕ) (change : Change) (from s : RowSt
 module _ {C : Type 0} (load : C → Load) where
   -- The exchange hit, and then the row's slot was given back; or it showed another state.
   abbrev pub Taking : ℕ → Change → RowState → View → View → Result C RowState → Type 0
-  Taking row change from v w (Ok c) = (u : View) × (x : Row) × Carries (load c) x × DidChange v u row change from (Some row) (act_with 0 change row) x × Slotted u w None
+  Taking row change from v w (Ok c) = (u : View) × (x : Row) × IsLoadOf x (load c) × DidChange v u row change from (Some row) (act_with 0 change row) x × Slotted u w None
   Taking row change from v w (Err s) = ShowsState v w row change from s

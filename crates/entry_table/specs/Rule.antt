@@ -13,16 +13,20 @@ use Rattle.queue_model.specs.declared.rows.Row.{Row}
 use Rattle.queue_model.specs.declared.rows.RowState.{RowState}
 use Rattle.queue_model.specs.declared.rows.RowState.TheVariants.{Available, Locked, Unlocked, Dequeued, Deleted}
 use Rattle.queue_model.specs.declared.steps.DraftWord.{DraftWord}
+use Rattle.queue_model.specs.declared.steps.Node.{Node}
+use Rattle.queue_model.specs.declared.steps.Node.TheVariants as nodes
 use Rattle.queue_model.specs.History.{after, Legal, own}
 use Rattle.acts_core.specs.Load.{Load}
-use Rattle.queue_model.specs.State.{empty, row_at, IsIn, entries}
-use Rattle.link_core.specs.Layout.{draft_of}
+use Rattle.acts_core.specs.Moments.{IsLoadOf}
+use Rattle.queue_model.specs.State.{empty, row_at, place_at, IsIn, entries}
+use Rattle.link_core.specs.Layout.{link_of, draft_of}
 use Rattle.link_core.specs.Stands.{Stands}
 use Rattle.link_core.specs.Table.{Table}
 use Rattle.entry_table.specs.declared.view.Drawing.{Drawing}
 use Rattle.entry_table.specs.declared.view.Shape.{Shape}
 use Rattle.entry_table.specs.declared.view.Told.{Told}
 use Rattle.entry_table.specs.declared.view.View.{View}
+use Rattle.entry_table.specs.declared.view.Watched.{Watched}
 use Rattle.entry_table.specs.Views.{Has, caller_of, drawing_at, word_in, takes_of, AllEnd}
 
 -- the numbers below n
@@ -32,7 +36,7 @@ below (suc n) = below n ++ n ∷ []
 
 -- the view of the boss when the table is made
 abbrev pub boss : Shape → View
-boss shape = record { shape = shape; opening = empty shape.lists shape.consumers; callers = 0 ∷ []; made = 1; alone = true; consumers = below shape.consumers; allowance = 524288; share = shape.rows; reached = 0; drawn = []; slot = None; told = []; seen = []; shown = [] }
+boss shape = record { shape = shape; opening = empty shape.lists shape.consumers; callers = 0 ∷ []; made = 1; alone = true; consumers = below shape.consumers; allowance = 524288; share = shape.rows; reached = 0; drawn = []; slot = None; told = []; watched = None; seen = []; shown = [] }
 
 -- the words of a table of this shape, with who drew each row that is not linked, and what each caller has reserved
 abbrev pub table_at : Shape → List ℕ → (ℕ → Option ℕ) → (ℕ → Reservation) → Table
@@ -40,18 +44,10 @@ table_at shape words drawer reserved = record { rows = shape.rows; lists = shape
 
 -- Cargo
 
--- the cargo is that of the row
-pub record Carries (l : Load) (x : Row) : Type 0 where
-  pub id : l.id ≡ x.slip.id
-  pub size : l.size ≡ x.slip.size
-  pub count : l.count ≡ x.count
-  pub content : l.content ≡ x.content
-  pub origin : l.origin ≡ x.origin
-
 module _ {C : Type 0} (load : C → Load) where
   -- the cargo of the row is at home, in slot r
   abbrev pub Full : List (maybe.Option (Option C)) → ℕ → Row → Type 0
-  Full homes r x = (c : C) × (get_elem? homes r ≡ some (some (Some c))) × Carries (load c) x
+  Full homes r x = (c : C) × (get_elem? homes r ≡ some (some (Some c))) × IsLoadOf x (load c)
 
   -- slot r is out with a seat, or at home and empty
   abbrev pub Bare : List (maybe.Option (Option C)) → ℕ → Type 0
@@ -69,7 +65,6 @@ module _ {C : Type 0} (load : C → Load) where
   pub record Cargoes (homes : List (maybe.Option (Option C))) (q : Queue) : Type 0 where
     pub rows : (r : ℕ) (x : Row) → row_at q r ≡ Some x → Lies homes r x x.state
     pub others : (r : ℕ) → r < length homes → row_at q r ≡ None → Bare homes r
-    pub keyless : (r : ℕ) (x : Row) → row_at q r ≡ Some x → x.slip.key ≡ None
 
 -- Views
 
@@ -112,6 +107,28 @@ Unwritten rows words = (r : ℕ) (w : DraftWord) → r < rows → slice_index wo
 -- so many rows were drawn, and maybe more
 abbrev pub Reaches : ℕ → ℕ → View → Type 0
 Reaches top id v = v.reached ≤ top
+
+-- the table has this node
+abbrev pub HasNode : Shape → Node → Type 0
+HasNode shape (nodes.Head l) = l < shape.lists
+HasNode shape (nodes.Row r) = r < shape.rows
+
+-- row s is row r, or a later one of its list
+pub record IsOnward (q : Queue) (r s : ℕ) : Type 0 where
+  pub from : Row
+  pub from_found : row_at q r ≡ Some from
+  pub to : Row
+  pub to_found : row_at q s ≡ Some to
+  pub list : to.slip.list ≡ from.slip.list
+  pub later : place_at q r ≤ place_at q s
+
+-- a link that named a row names that row, or a later one of its list
+abbrev pub MovesOn : Queue → ℕ → ℕ → Type 0
+MovesOn q n m = (r : ℕ) → n ≡ suc r → (s : ℕ) × (m ≡ suc s) × IsOnward q r s
+
+-- the link that the pass watches moved on at most
+abbrev pub Watches : Shape → List ℕ → Queue → ℕ → View → Type 0
+Watches shape words q id v = (w : Watched) → v.watched ≡ Some w → HasNode shape w.node × MovesOn q w.link (slice_index words (link_of shape.rows w.node))
 
 -- the slot that the pass has out
 abbrev pub Takes : {S : Type 0} → List (maybe.Option S) → (ℕ → ℕ) → ℕ → View → Type 0
@@ -160,6 +177,7 @@ module _ {C : Type 0} (load : C → Load) where
     pub drafts : Each (Drafted s.words drawer) s.views
     pub unwritten : Unwritten shape.rows s.words
     pub reaches : Each (Reaches (slice_index s.words 0)) s.views
+    pub watches : Each (Watches shape s.words (after O history)) s.views
     pub takes : Each (Takes s.homes outs) s.views
     pub held : Each (Holds (after O history)) s.views
     pub away : Away s.homes outs s.views

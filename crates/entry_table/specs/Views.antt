@@ -42,7 +42,7 @@ rest_of (k ∷ ks) = ks
 
 -- the view of a badge that has one
 abbrev pub spent : View
-spent = record { shape = record { rows = 0; lists = 0; consumers = 0 }; opening = empty 0 0; callers = []; made = 0; alone = false; consumers = []; allowance = 0; share = 0; reached = 0; drawn = []; slot = None; told = []; seen = []; shown = [] }
+spent = record { shape = record { rows = 0; lists = 0; consumers = 0 }; opening = empty 0 0; callers = []; made = 0; alone = false; consumers = []; allowance = 0; share = 0; reached = 0; drawn = []; slot = None; told = []; watched = None; seen = []; shown = [] }
 
 abbrev pub view_in : List View → View
 view_in [] = spent

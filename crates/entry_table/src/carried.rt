@@ -31,7 +31,8 @@ impl<C: Freight> Entries<C> {
     pub(crate) fn take_out(&self, seat: &mut Seat<Option<C>, View>, row: u64, caller: u64) -> C
         requires table { seat.old.table_id ≡ self.now.table.shared.table_id }
         requires caller { seat.old.me.0.callers ≡ caller ∷ rest_of seat.old.me.0.callers }
-        requires out { ((c : C) × (seat.old.me.1 ≡ (row, Some c) ∷ [])) × (seat.old.me.0.slot ≡ Some row) }
+        requires out { ((c : C) × (seat.old.me.1 ≡ (row, Some c) ∷ []))
+            × (seat.old.me.0.slot ≡ Some row) }
         requires mine { Mine (state_in seat.old.me.0) seat.old.me.0 row }
         ensures table { (seat.new.table_id ≡ seat.old.table_id) × (seat.new.id ≡ seat.old.id) }
         ensures carried { (seat.old.me.1 ≡ (row, Some result) ∷ []) × (seat.new.me.1 ≡ []) }

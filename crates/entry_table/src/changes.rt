@@ -40,7 +40,8 @@ impl<C: Freight> Entries<C> {
         ensures allowance { allowance pass.new ≡ allowance pass.old }
         ensures share { share pass.new ≡ share pass.old }
         ensures drawn { drawn pass.new ≡ drawn pass.old }
-        ensures changed { Changed C.goods (view pass.old) (view pass.new) pass.old.caller row change from cargo result }
+        ensures changed { Changed C.goods (view pass.old) (view pass.new) pass.old.caller row change
+            from cargo result }
     {
         match change {
             Change::Unlock => self.bring(pass, row, Change::Unlock, cargo),

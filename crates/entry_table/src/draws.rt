@@ -43,7 +43,8 @@ impl<C: Freight> Entries<C> {
         requires caller { seat.old.me.0.callers ≡ caller ∷ rest_of seat.old.me.0.callers }
         requires idle { seat.old.me.0.slot ≡ None }
         requires room { 1 ≤ seat.old.me.0.share }
-        requires top { (top ≤ seat.old.me.0.reached) × (seat.old.me.0.reached ≤ seat.old.me.0.shape.rows) }
+        requires top { (top ≤ seat.old.me.0.reached)
+            × (seat.old.me.0.reached ≤ seat.old.me.0.shape.rows) }
         ensures table { (seat.new.table_id ≡ seat.old.table_id) × (seat.new.id ≡ seat.old.id) }
         ensures carried { seat.new.me.1 ≡ seat.old.me.1 }
         ensures drew { DidDraw seat.old.me.0 seat.new.me.0 result }
@@ -82,7 +83,8 @@ impl<C: Freight> Entries<C> {
         ensures same { (draft.new.row ≡ draft.old.row) × (draft.new.cargo ≡ draft.old.cargo) }
         ensures did { Did pass.old pass.new [] }
         ensures went { Went (view pass.old) (view pass.new) [] }
-        ensures view { view pass.new ≡ stored_view (view pass.old) draft.old.row word value (seen pass.new) }
+        ensures view { view pass.new
+            ≡ stored_view (view pass.old) draft.old.row word value (seen pass.new) }
     {
         let mut seat = mem::replace(&mut pass.badge, Badge::blank()).into_seat::<Option<C>>();
         self.store_at::<Brand>(&mut seat, draft.row, word, value, pass.caller);

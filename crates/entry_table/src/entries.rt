@@ -15,7 +15,10 @@ pub struct Entries<C: Freight> {
     /// Room for what is left when the table is closed.
     pub(crate) parcels: Vec<Option<C>>,
     pub(crate) rest: Vec<RestEntry<C>>,
-    pub ghost room: { (vec_len parcels ≡ 0) × (shape.rows ≤ vec_capacity parcels) × (vec_len rest ≡ 0) × (shape.rows ≤ vec_capacity rest) },
+    pub ghost room: { (vec_len parcels ≡ 0)
+        × (shape.rows ≤ vec_capacity parcels)
+        × (vec_len rest ≡ 0)
+        × (shape.rows ≤ vec_capacity rest) },
     pub ghost wide: { table.shared.table_id.words ≡ words_of shape.rows shape.lists },
     pub ghost slots: { table.shared.table_id.slots ≡ shape.rows },
     pub ghost keyed: { table.shared.key ≡ shape },

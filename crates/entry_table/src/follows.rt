@@ -1,9 +1,13 @@
 //! Steps along the links of a list.
-ghost use Rattle.std.specs.Prelude.{◌≡◌, ◌<◌, IfSome, []};
+ghost use Rattle.std.specs.Prelude.{◌≡◌, ◌<◌, IfSome, [], ◌∷◌, ◌++◌};
+ghost use Rattle.queue_model.specs.declared.steps.Step.TheVariants as steps;
+ghost use Rattle.queue_model.specs.declared.steps.WordName.TheVariants as names;
 ghost use Rattle.queue_model.specs.State.{place_at};
 ghost use Rattle.acts_core.specs.Walks.{IsStop, FollowsTo, node_at};
-ghost use Rattle.entry_table.specs.Passes.{IsPassOf, Kept, Did, state};
+ghost use Rattle.entry_table.specs.Skips.{link_word, watched};
+ghost use Rattle.entry_table.specs.Passes.{IsPassOf, Kept, Did, state, shown, seen};
 ghost use Rattle.entry_table.specs.Sights.{sight};
+ghost use Rattle.entry_table.specs.Views.{entry};
 
 use crate::entries::Entries;
 use crate::pass::Pass;
@@ -31,8 +35,13 @@ impl<C: Freight> Entries<C> {
         requires stop { IsStop (state pass.old) list stop }
         ensures kept { Kept pass.old pass.new }
         ensures did { Did pass.old pass.new [] }
+        ensures watched { watched pass.new ≡ watched pass.old }
         ensures follows { FollowsTo (sight pass.old) (sight pass.new) list stop result }
-        ensures low { IfSome result (λ row. (row < self.now.shape.rows) × (place_at (state pass.new) row < self.now.shape.rows)) }
+        ensures shown { shown pass.new ≡ shown pass.old
+            ++ entry (steps.Load (names.Link (node_at list stop))) (link_word result) (link_word result) (seen pass.new) ∷ [] }
+        ensures low { IfSome result (λ row.
+            (row < self.now.shape.rows)
+            × (place_at (state pass.new) row < self.now.shape.rows)) }
     {
         let node = node_of(list, stop);
         let word = self.look(pass, WordName::Link(node));

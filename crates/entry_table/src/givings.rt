@@ -32,9 +32,13 @@ impl<C: Freight> Entries<C> {
         requires table { IsPassOf self.now pass.old }
         requires reserved { CanGive (reserved_by (state pass.old) pass.old.caller) size }
         ensures kept { Kept pass.old pass.new }
-        ensures rights { (allowance pass.new ≡ allowance pass.old + 1) × (share pass.new ≡ share pass.old) × (drawn pass.new ≡ drawn pass.old) }
+        ensures rights { (allowance pass.new ≡ allowance pass.old + 1)
+            × (share pass.new ≡ share pass.old)
+            × (drawn pass.new ≡ drawn pass.old) }
         ensures did { Did pass.old pass.new (acts.GiveBack size ∷ []) }
-        ensures shown { (n : ℕ) × (shown pass.new ≡ shown pass.old ++ entry (steps.GiveBack size) n (n - (entry_worth + size)) (seen pass.new) ∷ []) }
+        ensures shown { (n : ℕ) × (shown pass.new
+            ≡ shown pass.old
+            ++ entry (steps.GiveBack size) n (n - (entry_worth + size)) (seen pass.new) ∷ []) }
     {
         let mut seat = mem::replace(&mut pass.badge, Badge::blank()).into_seat::<Option<C>>();
         self.give_back_at(&mut seat, size, pass.caller);

@@ -12,7 +12,7 @@ ghost use Rattle.link_core.specs.Steps.{act_with, goes_to};
 ghost use Rattle.entry_table.specs.Views.{rest_of, state_in, entry};
 ghost use Rattle.entry_table.specs.Plays.{AfterCall, DidChange};
 ghost use Rattle.entry_table.specs.Homes.{bringing, BringsHome, Brought, deleted, Holding, HomeReady};
-ghost use Rattle.entry_table.specs.Passes.{IsPassOf, Kept, Did, state, shown, seen, allowance, share, drawn, view};
+ghost use Rattle.entry_table.specs.Passes.{IsPassOf, Kept, Did, state, shown, seen, view, KeepsRights, SpeaksBy};
 
 use crate::entries::Entries;
 use crate::pass::Pass;
@@ -62,7 +62,7 @@ impl<C: Freight> Entries<C> {
         requires change { BringsHome change }
         requires holding { Holding (state pass.old) pass.old.caller row (C.goods cargo) }
         ensures kept { Kept pass.old pass.new }
-        ensures rights { (allowance pass.new ≡ allowance pass.old) × (share pass.new ≡ share pass.old) × (drawn pass.new ≡ drawn pass.old) }
+        ensures rights { KeepsRights pass.old pass.new }
         ensures brought { Brought (view pass.old) (view pass.new) row change (C.goods cargo).count }
     {
         let mut seat = mem::replace(&mut pass.badge, Badge::blank()).into_seat::<Option<C>>();
@@ -80,12 +80,14 @@ impl<C: Freight> Entries<C> {
         caller: u64,
     )
         requires table { seat.old.table_id ≡ self.now.table.shared.table_id }
-        requires caller { (seat.old.me.0.callers ≡ caller ∷ rest_of seat.old.me.0.callers) × (caller < 4294967296) }
+        requires caller { SpeaksBy caller seat.old.me.0 }
         requires idle { (seat.old.me.1 ≡ []) × (seat.old.me.0.slot ≡ None) }
         requires change { BringsHome change }
         requires low { row < self.now.shape.rows }
         requires holding { Holding (state_in seat.old.me.0) caller row (C.goods cargo) }
-        ensures table { (seat.new.table_id ≡ seat.old.table_id) × (seat.new.id ≡ seat.old.id) × (seat.new.me.1 ≡ []) }
+        ensures table { (seat.new.table_id ≡ seat.old.table_id)
+            × (seat.new.id ≡ seat.old.id)
+            × (seat.new.me.1 ≡ []) }
         ensures brought { Brought seat.old.me.0 seat.new.me.0 row change (C.goods cargo).count }
         ensures after { AfterCall seat.old.me.0 seat.new.me.0 }
     {
@@ -104,7 +106,7 @@ impl<C: Freight> Entries<C> {
     ) -> u64
         requires picked { (J.target ≡ row) × (J.change ≡ change) }
         requires table { seat.old.table_id ≡ self.now.table.shared.table_id }
-        requires caller { (seat.old.me.0.callers ≡ caller ∷ rest_of seat.old.me.0.callers) × (caller < 4294967296) }
+        requires caller { SpeaksBy caller seat.old.me.0 }
         requires change { BringsHome change × (to ≡ goes_to caller change) }
         requires low { row < self.now.shape.rows }
         requires ready { HomeReady C.goods seat.old.me caller row }
@@ -126,10 +128,13 @@ impl<C: Freight> Entries<C> {
         requires known { (x : Row) × (row_at (state pass.old) row ≡ Some x) }
         requires dequeued { HasDequeued pass.old.caller row (seen pass.old) }
         ensures kept { Kept pass.old pass.new }
-        ensures rights { (allowance pass.new ≡ allowance pass.old) × (share pass.new ≡ share pass.old) × (drawn pass.new ≡ drawn pass.old) }
+        ensures rights { KeepsRights pass.old pass.new }
         ensures did { Did pass.old pass.new (acts.Del row ∷ []) }
-        ensures changed { (x : Row) × DidChange (view pass.old) (view pass.new) row changes.Del Dequeued None (acts.Del row) x }
-        ensures shown { shown pass.new ≡ shown pass.old ++ entry (steps.State row changes.Del Dequeued) (pack_state Dequeued) (pack_state Deleted) (seen pass.new) ∷ [] }
+        ensures changed { (x : Row) × DidChange (view pass.old) (view pass.new) row changes.Del
+            Dequeued None (acts.Del row) x }
+        ensures shown { shown pass.new ≡ shown pass.old
+            ++ entry (steps.State row changes.Del Dequeued) (pack_state Dequeued)
+            (pack_state Deleted) (seen pass.new) ∷ [] }
     {
         let mut seat = mem::replace(&mut pass.badge, Badge::blank()).into_seat::<Option<C>>();
         self.delete_at::<Brand>(&mut seat, row, pass.caller);
@@ -146,7 +151,8 @@ impl<C: Freight> Entries<C> {
         requires dequeued { HasDequeued caller row seat.old.me.0.seen }
         ensures table { (seat.new.table_id ≡ seat.old.table_id) × (seat.new.id ≡ seat.old.id) }
         ensures carried { seat.new.me.1 ≡ seat.old.me.1 }
-        ensures told { (x : Row) × DidChange seat.old.me.0 seat.new.me.0 row changes.Del Dequeued None (acts.Del row) x }
+        ensures told { (x : Row)
+            × DidChange seat.old.me.0 seat.new.me.0 row changes.Del Dequeued None (acts.Del row) x }
         ensures after { AfterCall seat.old.me.0 seat.new.me.0 }
     {
         let _caller = caller;

@@ -15,12 +15,14 @@ mod homes;
 mod links;
 mod loads;
 mod making;
+mod marks;
 mod pass;
 mod plays;
 mod rest;
 mod splits;
 mod states;
 mod tails;
+mod unlinks;
 mod view;
 
 pub use changes::Exchanged;
@@ -28,7 +30,7 @@ pub use draft::{Draft, Drawn, Linking};
 pub use entries::Entries;
 pub use follows::node_of;
 pub use pass::Pass;
-pub use view::{Drawing, Ruling, Shape, Told, View};
+pub use view::{Drawing, Ruling, Shape, Told, View, Watched};
 
 #[cfg(test)]
 mod tests;

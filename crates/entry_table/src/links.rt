@@ -23,7 +23,8 @@ impl<C: Freight> Entries<C> {
         requires table { IsPassOf self.now pass.old }
         requires draft { CanLink C.goods (view pass.old) pass.old.caller draft after }
         ensures kept { Kept pass.old pass.new }
-        ensures rights { (allowance pass.new ≡ allowance pass.old) × (share pass.new ≡ share pass.old) }
+        ensures rights { (allowance pass.new ≡ allowance pass.old)
+            × (share pass.new ≡ share pass.old) }
         ensures answer { LinkAnswer C.goods after draft (view pass.old) (view pass.new) result }
     {
         let mut seat = mem::replace(&mut pass.badge, Badge::blank()).into_seat::<Option<C>>();
@@ -39,12 +40,15 @@ impl<C: Freight> Entries<C> {
         after: Node,
         caller: u64,
     ) -> Linking<C>
-        requires table { (seat.old.table_id ≡ self.now.table.shared.table_id) × (seat.old.me.0.shape ≡ self.now.shape) }
+        requires table { (seat.old.table_id ≡ self.now.table.shared.table_id)
+            × (seat.old.me.0.shape ≡ self.now.shape) }
         requires caller { seat.old.me.0.callers ≡ caller ∷ rest_of seat.old.me.0.callers }
         requires idle { (seat.old.me.1 ≡ []) × (seat.old.me.0.slot ≡ None) }
         requires within { Within seat.old.me.0.shape (state_in seat.old.me.0) }
         requires draft { CanLink C.goods seat.old.me.0 caller draft after }
-        ensures table { (seat.new.table_id ≡ seat.old.table_id) × (seat.new.id ≡ seat.old.id) × (seat.new.me.1 ≡ []) }
+        ensures table { (seat.new.table_id ≡ seat.old.table_id)
+            × (seat.new.id ≡ seat.old.id)
+            × (seat.new.me.1 ≡ []) }
         ensures answer { LinkAnswer C.goods after draft seat.old.me.0 seat.new.me.0 result }
         ensures after { AfterCall seat.old.me.0 seat.new.me.0 }
     {
@@ -70,7 +74,8 @@ impl<C: Freight> Entries<C> {
         requires picked { (J.number ≡ row) × (J.behind ≡ after) }
         requires table { seat.old.table_id ≡ self.now.table.shared.table_id }
         requires caller { seat.old.me.0.callers ≡ caller ∷ rest_of seat.old.me.0.callers }
-        requires place { (link_of self.now.shape.rows after < self.now.table.shared.table_id.words) × (row < 524288) }
+        requires place { (link_of self.now.shape.rows after < self.now.table.shared.table_id.words)
+            × (row < 524288) }
         requires ready { LinkReady C.goods seat.old.me caller row after }
         ensures table { (seat.new.table_id ≡ seat.old.table_id) × (seat.new.id ≡ seat.old.id) }
         ensures told { linking C.goods row after seat.old.me result seat.new.me }

@@ -3,7 +3,8 @@ ghost use Rattle.std.specs.Prelude.{◌≡◌, [], ◌∷◌, ◌++◌};
 ghost use Rattle.queue_model.specs.declared.steps.Step.TheVariants as steps;
 ghost use Rattle.entry_table.specs.Views.{rest_of, entry};
 ghost use Rattle.entry_table.specs.Plays.{Shows, looked};
-ghost use Rattle.entry_table.specs.Passes.{IsPassOf, Kept, Did, HasWord, state, shown, seen, allowance, share, drawn};
+ghost use Rattle.entry_table.specs.Skips.{watched};
+ghost use Rattle.entry_table.specs.Passes.{IsPassOf, Kept, Did, HasWord, state, shown, seen, KeepsRights};
 
 use crate::entries::Entries;
 use crate::pass::Pass;
@@ -22,10 +23,12 @@ impl<C: Freight> Entries<C> {
         requires table { IsPassOf self.now pass.old }
         requires word { HasWord self.now.shape word }
         ensures kept { Kept pass.old pass.new }
-        ensures rights { (allowance pass.new ≡ allowance pass.old) × (share pass.new ≡ share pass.old) × (drawn pass.new ≡ drawn pass.old) }
+        ensures rights { KeepsRights pass.old pass.new }
         ensures did { Did pass.old pass.new [] }
+        ensures watched { watched pass.new ≡ watched pass.old }
         ensures shows { Shows (steps.Load word) result (state pass.new) }
-        ensures shown { shown pass.new ≡ shown pass.old ++ entry (steps.Load word) result result (seen pass.new) ∷ [] }
+        ensures shown { shown pass.new ≡ shown pass.old
+            ++ entry (steps.Load word) result result (seen pass.new) ∷ [] }
     {
         let mut seat = mem::replace(&mut pass.badge, Badge::blank()).into_seat::<Option<C>>();
         let found = self.look_at::<Brand>(&mut seat, word, pass.caller);

@@ -99,7 +99,8 @@ impl<C: Freight> Entries<C> {
         requires caller { pass.caller ≡ 0 }
         requires room { vec_len start ≤ self.shape.rows }
         requires start { AllMayStart C.goods self.shape.lists self.shape.consumers start.items }
-        ensures { IsMade C.goods self.shape.lists self.shape.rows self.shape.consumers start.items result.0 result.1 }
+        ensures { IsMade C.goods self.shape.lists self.shape.rows self.shape.consumers start.items
+            result.0 result.1 }
     {
         let mut pass = pass;
         self.lay_all(&mut pass, start);
@@ -138,7 +139,8 @@ impl<C: Freight> Entries<C> {
         requires view { view pass.old ≡ boss self.now.shape }
         requires caller { pass.old.caller ≡ 0 }
         requires room { vec_len start ≤ self.now.shape.rows }
-        requires start { AllMayStart C.goods self.now.shape.lists self.now.shape.consumers start.items }
+        requires start { AllMayStart C.goods self.now.shape.lists self.now.shape.consumers
+            start.items }
         ensures table { IsPassOf self.now pass.new }
         ensures caller { pass.new.caller ≡ 0 }
         ensures laid { IsLaid C.goods start.items (view pass.new) }

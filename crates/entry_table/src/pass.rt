@@ -18,10 +18,12 @@ pub struct Pass {
     /// How many rows were drawn, as far as it was shown when it last drew one.
     pub(crate) top: u64,
     pub ghost known: { badge.views ≡ view_in badge.views ∷ [] },
-    pub ghost speaks: { (view_in badge.views).callers ≡ caller ∷ rest_of (view_in badge.views).callers },
+    pub ghost speaks: { (view_in badge.views).callers
+        ≡ caller ∷ rest_of (view_in badge.views).callers },
     pub ghost low: { caller < 4294967296 },
     pub ghost idle: { (view_in badge.views).slot ≡ None },
-    pub ghost within: { Within (view_in badge.views).shape (state_in (view_in badge.views)) } by { Within-prop _ _ },
+    pub ghost within: { Within (view_in badge.views).shape
+        (state_in (view_in badge.views)) } by { Within-prop _ _ },
     pub ghost shares: { share ≡ (view_in badge.views).share },
     pub ghost tops: { top ≤ (view_in badge.views).reached },
     pub ghost reached: { (view_in badge.views).reached ≤ (view_in badge.views).shape.rows },

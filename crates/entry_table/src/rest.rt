@@ -1,5 +1,6 @@
 //! What a closed table leaves.
 ghost use Rattle.std.specs.Prelude.{[], ◌≡◌, ◌<◌, ◌≤◌, ℕ, ◌+◌, ◌*◌, slice_set, length, Some, None, vec_capacity, vec_len, slice_index_or, false, Option, map};
+ghost use Rattle.std.specs.List.{AllByRecursion};
 ghost use Rattle.std.specs.Slots.{slots_items, slots_len, slots_filled, IsFull};
 ghost use mathlib.Core.Option.{some};
 ghost use lib.ListN.{get_elem?};
@@ -44,9 +45,12 @@ fn resting<C: Freight>(
     state: RowState,
     cargo: C,
 ) -> RestEntry<C>
-    requires words { IsFull closed.now.words × (row_link_of (row + 1) ≤ slots_len closed.now.words) }
+    requires words { IsFull closed.now.words
+        × (row_link_of (row + 1) ≤ slots_len closed.now.words) }
     requires low { row < 524288 }
-    ensures { (q : Queue) (x : Row) → IsFor C.goods (slots_items closed.now.words) q row list state cargo x → IsRest C.goods result x }
+    ensures { (q : Queue) (x : Row)
+        → IsFor C.goods (slots_items closed.now.words) q row list state cargo x
+        → IsRest C.goods result x }
 {
     let at = row_place(row);
     RestEntry {
@@ -68,10 +72,12 @@ fn emptied<C>(closed: &mut Closed<Option<C>, Global>, parcels: &mut Vec<Option<C
     requires full { IsFull closed.old.slots }
     requires room { slots_len closed.old.slots ≤ vec_capacity parcels.old }
     requires none { vec_len parcels.old ≡ 0 }
-    ensures values { (k : ℕ) (y : Option C) → get_elem? (slots_items closed.old.slots) k ≡ some y → get_elem? parcels.new.items k ≡ some y }
+    ensures values { (k : ℕ) (y : Option C) → get_elem? (slots_items closed.old.slots) k ≡ some y
+        → get_elem? parcels.new.items k ≡ some y }
     ensures long { length parcels.new.items ≡ slots_len closed.old.slots }
     ensures words { closed.new.words ≡ closed.old.words }
-    ensures taken { (k : ℕ) → k < slots_len closed.new.slots → slice_index_or (slots_filled closed.new.slots) k false ≡ false }
+    ensures taken { (k : ℕ) → k < slots_len closed.new.slots
+        → slice_index_or (slots_filled closed.new.slots) k false ≡ false }
 {
     let mut i = 0;
     'slots: while i < closed.slot_count() {
@@ -88,10 +94,16 @@ fn gather<C: Freight>(
     parcels: &mut Vec<Option<C>>,
     rest: &mut Vec<RestEntry<C>>,
 )
-    requires words { IsFull closed.now.words × (head_of rows (list + 1) ≤ slots_len closed.now.words) }
+    requires words { IsFull closed.now.words
+        × (head_of rows (list + 1) ≤ slots_len closed.now.words) }
     requires small { rows ≤ 524288 }
-    requires at { (q : Queue) × Legible (slots_items closed.now.words) rows q × (list < q.lists) × Rested C.goods q (list + 1) rest.old.items parcels.old.items × (length (rests q.lists q) ≤ vec_capacity rest.old) }
-    ensures rested { (q : Queue) → Legible (slots_items closed.now.words) rows q → list < q.lists → Rested C.goods q (list + 1) rest.old.items parcels.old.items → Rested C.goods q list rest.new.items parcels.new.items }
+    requires at { (q : Queue) × Legible (slots_items closed.now.words) rows q
+        × (list < q.lists)
+        × Rested C.goods q (list + 1) rest.old.items parcels.old.items
+        × (length (rests q.lists q) ≤ vec_capacity rest.old) }
+    ensures rested { (q : Queue) → Legible (slots_items closed.now.words) rows q → list < q.lists
+        → Rested C.goods q (list + 1) rest.old.items parcels.old.items
+        → Rested C.goods q list rest.new.items parcels.new.items }
     ensures room { vec_capacity rest.new ≡ vec_capacity rest.old }
 {
     let mut left = rows;
@@ -119,8 +131,13 @@ fn gather_all<C: Freight>(
 )
     requires words { IsFull closed.now.words × (slots_len closed.now.words ≡ words_of rows lists) }
     requires small { rows ≤ 524288 }
-    requires at { (q : Queue) × Legible (slots_items closed.now.words) rows q × (lists ≡ q.lists) × Rested C.goods q lists rest.old.items parcels.old.items × (length (rests q.lists q) ≤ vec_capacity rest.old) }
-    ensures rested { (q : Queue) → Legible (slots_items closed.now.words) rows q → lists ≡ q.lists → Rested C.goods q lists rest.old.items parcels.old.items → Rested C.goods q 0 rest.new.items parcels.new.items }
+    requires at { (q : Queue) × Legible (slots_items closed.now.words) rows q
+        × (lists ≡ q.lists)
+        × Rested C.goods q lists rest.old.items parcels.old.items
+        × (length (rests q.lists q) ≤ vec_capacity rest.old) }
+    ensures rested { (q : Queue) → Legible (slots_items closed.now.words) rows q → lists ≡ q.lists
+        → Rested C.goods q lists rest.old.items parcels.old.items
+        → Rested C.goods q 0 rest.new.items parcels.new.items }
 {
     let mut list = lists;
     'lists: while list != 0 {
@@ -132,13 +149,14 @@ fn gather_all<C: Freight>(
 impl<C: Freight> Entries<C> {
     /// Ends the table, for the boss into which the passes of all callers that were made were joined. It gives
     /// the rows that aren't deleted, in queue order, as they are after what the boss has seen, which is the whole
-    /// history: every deed of it is of a caller that was made. It takes no memory.
+    /// history: every deed of it is of a caller that was made. The rows have no keys. It takes no memory.
     pub fn close(self, boss: Pass) -> Vec<RestEntry<C>>
         requires table { IsPassOf self boss }
         requires boss { boss.caller ≡ 0 }
         requires every { (k : ℕ) → k < (view boss).made → Has k (callers boss) }
         requires settled { Settled (state boss) }
         ensures rest { AreRests Listed (state boss) (map (left_of C.goods) result.items) }
+        ensures keys { AllByRecursion (λ e. e.slip.key ≡ None) result.items }
         ensures callers { (k : ℕ) → (view boss).made ≤ k → own k (seen boss) ≡ [] }
     {
         self.gathered(boss)
@@ -151,6 +169,7 @@ impl<C: Freight> Entries<C> {
         requires every { (k : ℕ) → k < (view boss).made → Has k (callers boss) }
         requires settled { Settled (state boss) }
         ensures rest { AreGathered C.goods result.items (rests (state boss).lists (state boss)) }
+        ensures keys { AllByRecursion (λ e. e.slip.key ≡ None) result.items }
         ensures callers { (k : ℕ) → (view boss).made ≤ k → own k (seen boss) ≡ [] }
     {
         let Entries {

@@ -35,12 +35,18 @@ impl<C: Freight> Entries<C> {
     ) -> Seat<Option<C>, View>
         requires picked { (J.amount ≡ amount) × (J.parted ≡ consumers.now) }
         requires table { seat.old.table_id ≡ self.now.table.shared.table_id }
-        requires callers { (seat.old.me.0.callers ≡ 0 ∷ caller ∷ rest_of (rest_of seat.old.me.0.callers)) × ¬ (Has caller (0 ∷ rest_of (rest_of seat.old.me.0.callers))) × (0 < caller) }
+        requires callers { (seat.old.me.0.callers
+            ≡ 0 ∷ caller ∷ rest_of (rest_of seat.old.me.0.callers))
+            × ¬ (Has caller (0 ∷ rest_of (rest_of seat.old.me.0.callers)))
+            × (0 < caller) }
         requires consumers { (c : ℕ) → Has c consumers.now → Has c seat.old.me.0.consumers }
         requires idle { seat.old.me.0.slot ≡ None }
         requires portion { (amount ≤ seat.old.me.0.allowance) × (amount ≤ seat.old.me.0.share) }
-        ensures table { (seat.new.table_id ≡ seat.old.table_id) × (seat.new.id ≡ seat.old.id) × (result.table_id ≡ seat.old.table_id) }
-        ensures views { (seat.new.me ≡ (cut_left amount consumers.now seat.old.me.0, seat.old.me.1)) × (result.me ≡ (cut_right amount consumers.now seat.old.me.0, [])) }
+        ensures table { (seat.new.table_id ≡ seat.old.table_id)
+            × (seat.new.id ≡ seat.old.id)
+            × (result.table_id ≡ seat.old.table_id) }
+        ensures views { (seat.new.me ≡ (cut_left amount consumers.now seat.old.me.0, seat.old.me.1))
+            × (result.me ≡ (cut_right amount consumers.now seat.old.me.0, [])) }
     {
         let _picked = (consumers.len(), amount, caller);
         self.table.shared.split_seat::<Cut<J>>(seat)
@@ -54,12 +60,18 @@ impl<C: Freight> Entries<C> {
         caller: u64,
     ) -> Seat<Option<C>, View>
         requires table { seat.old.table_id ≡ self.now.table.shared.table_id }
-        requires callers { (seat.old.me.0.callers ≡ 0 ∷ caller ∷ rest_of (rest_of seat.old.me.0.callers)) × ¬ (Has caller (0 ∷ rest_of (rest_of seat.old.me.0.callers))) × (0 < caller) }
+        requires callers { (seat.old.me.0.callers
+            ≡ 0 ∷ caller ∷ rest_of (rest_of seat.old.me.0.callers))
+            × ¬ (Has caller (0 ∷ rest_of (rest_of seat.old.me.0.callers)))
+            × (0 < caller) }
         requires consumers { (c : ℕ) → Has c consumers.now → Has c seat.old.me.0.consumers }
         requires idle { seat.old.me.0.slot ≡ None }
         requires portion { (amount ≤ seat.old.me.0.allowance) × (amount ≤ seat.old.me.0.share) }
-        ensures table { (seat.new.table_id ≡ seat.old.table_id) × (seat.new.id ≡ seat.old.id) × (result.table_id ≡ seat.old.table_id) }
-        ensures views { (seat.new.me ≡ (cut_left amount consumers.now seat.old.me.0, seat.old.me.1)) × (result.me ≡ (cut_right amount consumers.now seat.old.me.0, [])) }
+        ensures table { (seat.new.table_id ≡ seat.old.table_id)
+            × (seat.new.id ≡ seat.old.id)
+            × (result.table_id ≡ seat.old.table_id) }
+        ensures views { (seat.new.me ≡ (cut_left amount consumers.now seat.old.me.0, seat.old.me.1))
+            × (result.me ≡ (cut_right amount consumers.now seat.old.me.0, [])) }
     {
         self.cut::<Brand>(seat, consumers, amount, caller)
     }
@@ -76,7 +88,8 @@ impl<C: Freight> Entries<C> {
         ensures tables { IsPassOf self.now boss.new × IsPassOf self.now result }
         ensures boss { boss.new.caller ≡ 0 }
         ensures caller { result.caller ≡ (view boss.old).made }
-        ensures split { DidSplit (view boss.old) (view boss.new) (view result) consumers.now allowance }
+        ensures split { DidSplit (view boss.old) (view boss.new) (view result) consumers.now
+            allowance }
     {
         let mut seat = mem::replace(&mut boss.badge, Badge::blank()).into_seat::<Option<C>>();
         let caller = self.number(&mut seat);

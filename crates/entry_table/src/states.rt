@@ -9,7 +9,7 @@ ghost use Rattle.entry_table.specs.Plays.{took, ended, TakesOut, IsEnding, Takin
 ghost use Rattle.queue_model.specs.declared.deeds.Act.TheVariants as acts;
 ghost use Rattle.queue_model.specs.declared.steps.Change.TheVariants as changes;
 ghost use Rattle.queue_model.specs.declared.rows.RowState.TheVariants.{Locked};
-ghost use Rattle.entry_table.specs.Passes.{IsPassOf, Kept, view, state, allowance, share, drawn};
+ghost use Rattle.entry_table.specs.Passes.{IsPassOf, Kept, view, state, KeepsRights, SpeaksBy};
 
 use crate::entries::Entries;
 use crate::pass::Pass;
@@ -75,9 +75,10 @@ impl<C: Freight> Entries<C> {
     ) -> u64
         requires picked { (J.target ≡ row) × (J.change ≡ change) × (J.before ≡ from) }
         requires table { seat.old.table_id ≡ self.now.table.shared.table_id }
-        requires caller { (seat.old.me.0.callers ≡ caller ∷ rest_of seat.old.me.0.callers) × (caller < 4294967296) }
+        requires caller { SpeaksBy caller seat.old.me.0 }
         requires idle { seat.old.me.0.slot ≡ None }
-        requires known { (row < self.now.shape.rows) × ((x : Row) × (row_at (state_in seat.old.me.0) row ≡ Some x)) }
+        requires known { (row < self.now.shape.rows)
+            × ((x : Row) × (row_at (state_in seat.old.me.0) row ≡ Some x)) }
         requires fits { TakesOut change × GoesFrom caller change from × IsPackable from }
         ensures table { (seat.new.table_id ≡ seat.old.table_id) × (seat.new.id ≡ seat.old.id) }
         ensures told { took C.goods row change from seat.old.me result seat.new.me }
@@ -101,11 +102,14 @@ impl<C: Freight> Entries<C> {
         caller: u64,
     ) -> Result<C, RowState>
         requires table { (seat.old.table_id ≡ self.now.table.shared.table_id) }
-        requires caller { (seat.old.me.0.callers ≡ caller ∷ rest_of seat.old.me.0.callers) × (caller < 4294967296) }
+        requires caller { SpeaksBy caller seat.old.me.0 }
         requires idle { (seat.old.me.1 ≡ []) × (seat.old.me.0.slot ≡ None) }
-        requires known { (row < self.now.shape.rows) × ((x : Row) × (row_at (state_in seat.old.me.0) row ≡ Some x)) }
+        requires known { (row < self.now.shape.rows)
+            × ((x : Row) × (row_at (state_in seat.old.me.0) row ≡ Some x)) }
         requires fits { TakesOut change × GoesFrom caller change from × IsPackable from }
-        ensures table { (seat.new.table_id ≡ seat.old.table_id) × (seat.new.id ≡ seat.old.id) × (seat.new.me.1 ≡ []) }
+        ensures table { (seat.new.table_id ≡ seat.old.table_id)
+            × (seat.new.id ≡ seat.old.id)
+            × (seat.new.me.1 ≡ []) }
         ensures answer { Taking C.goods row change from seat.old.me.0 seat.new.me.0 result }
         ensures after { AfterCall seat.old.me.0 seat.new.me.0 }
     {
@@ -129,7 +133,7 @@ impl<C: Freight> Entries<C> {
         requires known { (x : Row) × (row_at (state pass.old) row ≡ Some x) }
         requires fits { TakesOut change × GoesFrom pass.old.caller change from × IsPackable from }
         ensures kept { Kept pass.old pass.new }
-        ensures rights { (allowance pass.new ≡ allowance pass.old) × (share pass.new ≡ share pass.old) × (drawn pass.new ≡ drawn pass.old) }
+        ensures rights { KeepsRights pass.old pass.new }
         ensures answer { Taking C.goods row change from (view pass.old) (view pass.new) result }
     {
         let mut seat = mem::replace(&mut pass.badge, Badge::blank()).into_seat::<Option<C>>();
@@ -150,10 +154,15 @@ impl<C: Freight> Entries<C> {
     ) -> u64
         requires picked { (J.target ≡ row) × (J.change ≡ change) × (J.before ≡ from) }
         requires table { seat.old.table_id ≡ self.now.table.shared.table_id }
-        requires caller { (seat.old.me.0.callers ≡ caller ∷ rest_of seat.old.me.0.callers) × (caller < 4294967296) }
+        requires caller { SpeaksBy caller seat.old.me.0 }
         requires idle { seat.old.me.0.slot ≡ None }
-        requires known { (row < self.now.shape.rows) × ((x : Row) × (row_at (state_in seat.old.me.0) row ≡ Some x)) }
-        requires fits { IsEnding change seat.old.me.0 row × GoesFrom caller change from × IsPackable from × (goes_to caller change ≡ to) × IsPackable to }
+        requires known { (row < self.now.shape.rows)
+            × ((x : Row) × (row_at (state_in seat.old.me.0) row ≡ Some x)) }
+        requires fits { IsEnding change seat.old.me.0 row
+            × GoesFrom caller change from
+            × IsPackable from
+            × (goes_to caller change ≡ to)
+            × IsPackable to }
         ensures table { (seat.new.table_id ≡ seat.old.table_id) × (seat.new.id ≡ seat.old.id) }
         ensures told { ended row change from seat.old.me result seat.new.me }
     {
@@ -167,11 +176,15 @@ impl<C: Freight> Entries<C> {
     // Deq of a row that the caller holds.
     fn dequeue_at(&self, seat: &mut Seat<Option<C>, View>, row: u64, caller: u64)
         requires table { seat.old.table_id ≡ self.now.table.shared.table_id }
-        requires caller { (seat.old.me.0.callers ≡ caller ∷ rest_of seat.old.me.0.callers) × (caller < 4294967296) }
+        requires caller { SpeaksBy caller seat.old.me.0 }
         requires idle { (seat.old.me.1 ≡ []) × (seat.old.me.0.slot ≡ None) }
-        requires held { (row < self.now.shape.rows) × IsIn (state_in seat.old.me.0) row (Locked caller) }
-        ensures table { (seat.new.table_id ≡ seat.old.table_id) × (seat.new.id ≡ seat.old.id) × (seat.new.me.1 ≡ []) }
-        ensures told { (x : Row) × DidChange seat.old.me.0 seat.new.me.0 row changes.Deq (Locked caller) None (acts.Deq row) x }
+        requires held { (row < self.now.shape.rows)
+            × IsIn (state_in seat.old.me.0) row (Locked caller) }
+        ensures table { (seat.new.table_id ≡ seat.old.table_id)
+            × (seat.new.id ≡ seat.old.id)
+            × (seat.new.me.1 ≡ []) }
+        ensures told { (x : Row) × DidChange seat.old.me.0 seat.new.me.0 row changes.Deq
+            (Locked caller) None (acts.Deq row) x }
         ensures after { AfterCall seat.old.me.0 seat.new.me.0 }
     {
         self.end_word::<Brand>(
@@ -189,8 +202,9 @@ impl<C: Freight> Entries<C> {
         requires table { IsPassOf self.now pass.old }
         requires held { IsIn (state pass.old) row (Locked pass.old.caller) }
         ensures kept { Kept pass.old pass.new }
-        ensures rights { (allowance pass.new ≡ allowance pass.old) × (share pass.new ≡ share pass.old) × (drawn pass.new ≡ drawn pass.old) }
-        ensures changed { (x : Row) × DidChange (view pass.old) (view pass.new) row changes.Deq (Locked pass.old.caller) None (acts.Deq row) x }
+        ensures rights { KeepsRights pass.old pass.new }
+        ensures changed { (x : Row) × DidChange (view pass.old) (view pass.new) row changes.Deq
+            (Locked pass.old.caller) None (acts.Deq row) x }
     {
         let mut seat = mem::replace(&mut pass.badge, Badge::blank()).into_seat::<Option<C>>();
         self.dequeue_at(&mut seat, row, pass.caller);

@@ -4,7 +4,7 @@ ghost use Rattle.queue_model.specs.declared.steps.Step.TheVariants as steps;
 ghost use Rattle.queue_model.specs.Packing.{pack_node};
 ghost use Rattle.entry_table.specs.Views.{rest_of, state_in, entry};
 ghost use Rattle.entry_table.specs.Helps.{HelpableTo, helped, tail_after};
-ghost use Rattle.entry_table.specs.Passes.{IsPassOf, Kept, Did, state, shown, seen, allowance, share, drawn};
+ghost use Rattle.entry_table.specs.Passes.{IsPassOf, Kept, Did, state, shown, seen, KeepsRights};
 
 use crate::entries::Entries;
 use crate::pass::Pass;
@@ -53,9 +53,11 @@ impl<C: Freight> Entries<C> {
         requires table { IsPassOf self.now pass.old }
         requires helpable { HelpableTo (state pass.old) list from to }
         ensures kept { Kept pass.old pass.new }
-        ensures rights { (allowance pass.new ≡ allowance pass.old) × (share pass.new ≡ share pass.old) × (drawn pass.new ≡ drawn pass.old) }
+        ensures rights { KeepsRights pass.old pass.new }
         ensures did { Did pass.old pass.new [] }
-        ensures shown { (n : ℕ) × (result ≡ (n == pack_node from)) × (shown pass.new ≡ shown pass.old ++ entry (steps.HelpTail list from to) n (tail_after n from to) (seen pass.new) ∷ []) }
+        ensures shown { (n : ℕ) × (result ≡ (n == pack_node from))
+            × (shown pass.new ≡ shown pass.old
+            ++ entry (steps.HelpTail list from to) n (tail_after n from to) (seen pass.new) ∷ []) }
     {
         let mut seat = mem::replace(&mut pass.badge, Badge::blank()).into_seat::<Option<C>>();
         let found = self.help_at::<Brand>(&mut seat, list, from, to, pass.caller);

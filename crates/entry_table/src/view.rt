@@ -1,7 +1,7 @@
 //! What a pass knows of its table, and the rule of the table. All of it exists in proofs alone, but for the shape.
 use acts_core::Freight;
 use atomic_table::TableRule;
-use queue_model::{Deed, Queue, Tried};
+use queue_model::{Deed, Node, Queue, Tried};
 use std::collections::LinkedList;
 use std::marker::PhantomData;
 
@@ -44,6 +44,15 @@ pub struct Told {
     pub seen: LinkedList<Deed>,
 }
 
+/// A link, as a pass was shown it. No value of it is made.
+#[derive(Drop)]
+pub struct Watched {
+    /// Where the link stands.
+    pub node: Node,
+    /// What it held.
+    pub link: u64,
+}
+
 /// What a pass knows. No value of it is made.
 #[derive(Drop)]
 pub struct View {
@@ -71,6 +80,8 @@ pub struct View {
     pub slot: Option<u64>,
     /// What the passes that were just joined had seen. None is left after the next step.
     pub told: LinkedList<Told>,
+    /// The link that it watches. It has not moved back since.
+    pub watched: Option<Watched>,
     /// What it knows to begin the history.
     pub seen: LinkedList<Deed>,
     /// The steps that it tried, and what they showed.

@@ -40,9 +40,6 @@ created old new images first is none written only = record {
 
 -- ---- the first gate that isn't open
 
-pub headed_front : (bytes : List ℕ) → IsHeaded bytes → Front (take 16 bytes) []
-headed_front bytes h = subst (λ (l : List ℕ). Front l []) (sym h.header_is) first_front
-
 -- an open gate, and what stands behind it
 opened_at : (bytes : List ℕ) (gate : ℕ) → gate < length bytes → get_or bytes gate 0 ≡ 1 → bytes ≡ take gate bytes ++ (1 ∷ drop (gate + 1) bytes)
 opened_at bytes gate lt is = split_at gate bytes lt ∙ ap (λ g. take gate bytes ++ (g ∷ drop (gate + 1) bytes)) is
@@ -129,30 +126,4 @@ pub told_ok : {E : Type 0} (seen : Option (List ℕ)) (v : List ℕ) → IfSome 
 told_ok seen v read (Ok x) same = told_as v seen x.1 same read
 told_ok seen v read (Err e) same = tt
 
-pub ok_any : {T E : Type 0} (r : Result T E) (P : Type 0) → P → OnOk r P
-ok_any (Ok x) P p = p
-ok_any (Err e) P p = tt
-
 -- ---- faults
-
-not_headed : (seen : Option (List ℕ)) (v : List ℕ) (P : List ℕ → Type 0) → IfSome seen (λ b. v ≡ b) → P v → IfSome seen P
-not_headed None v P read p = tt
-not_headed (Some y) v P read p = subst P read p
-
-pub fits_gate : {T : Type 0} (r : Result T OpenFault) (v : List ℕ) (seen : Option (List ℕ)) (before now : ℕ) → now ≡ before → IfSome seen (λ b. v ≡ b) → IfErr r (λ e. GateFits e v) → IfErr r (λ e. OpenFits e seen before now)
-fits_gate (Ok x) v seen before now same read p = tt
-fits_gate (Err open_.DeviceFault) v seen before now same read p = absurd p
-fits_gate (Err open_.NotJournal) v seen before now same read p = (same, not_headed seen v (λ b. IsHeaded b → ⊥) read p)
-fits_gate (Err (open_.Damaged at)) v seen before now same read p = (same, not_headed seen v (λ b. IsDamaged b at) read p)
-fits_gate (Err open_.NoMemory) v seen before now same read p = same
-
-pub fits_read : (e : OpenFault) (seen : Option (List ℕ)) (before mid now : ℕ) → mid ≡ before → ReadFits e mid now → OpenFits e seen before now
-fits_read open_.DeviceFault seen before mid now same p = omega (arith, same, p)
-fits_read open_.NotJournal seen before mid now same p = absurd p
-fits_read (open_.Damaged at) seen before mid now same p = absurd p
-fits_read open_.NoMemory seen before mid now same p = p ∙ same
-
--- a disk that told no bytes isn't one that has some
-pub spared_none : (seen : Option (List ℕ)) → IfSome seen (λ b. 0 ≡ length b) → IsSomeAnd seen (λ b. 0 < length b) → ⊥
-spared_none None none some = some
-spared_none (Some x) none some = omega (arith, none, some)

@@ -42,10 +42,6 @@ pub when_ok : {T E : Type 0} (r : Result T E) (P : Type 0) → is_err r ≡ fals
 when_ok (Ok x) P fails p = p
 when_ok (Err e) P fails p = absurd (cc fails)
 
-pub when_is_ok : {T E : Type 0} (r : Result T E) (P : Type 0) → is_ok r ≡ true → OnOk r P → P
-when_is_ok (Ok x) P works p = p
-when_is_ok (Err e) P works p = absurd (cc works)
-
 -- what follows of it
 pub on_ok_at : {T E : Type 0} (r : Result T E) (P Q : Type 0) → (P → Q) → OnOk r P → OnOk r Q
 on_ok_at (Ok x) P Q to p = to p
@@ -71,9 +67,6 @@ still_then a b None p q = tt
 still_then a None (Some z) p q = absurd q
 still_then None (Some y) (Some z) p q = absurd p
 still_then (Some x) (Some y) (Some z) p q = q ∙ p
-
-pub no_more_then : (a b c : List ℕ → Type 0) → NoMore a b → NoMore b c → NoMore a c
-no_more_then a b c p q = λ x i. p x (q x i)
 
 -- the moments of a call that brings no image
 pub over_elapses : {D : Type 0} (moment : D → ℕ) (since : D → ℕ → List ℕ → Type 0) (images : D → List ℕ → Type 0) (told : Type 0) (old new : D) → NoMore (images old) (images new)

@@ -15,9 +15,6 @@ pub record Ready (before body c : List ℕ) : Type 0 where
   pub shut : gate ≢ 1
   pub is : c ≡ before ++ (gate ∷ (body ++ (0 ∷ rest)))
 
-pub ready_shut : (before body c : List ℕ) → Ready before body c → Shut before c
-ready_shut before body c r = record { gate = r.gate; rest = body ++ (0 ∷ r.rest); shut = r.shut; is = r.is }
-
 pub ready_staged : (before body c : List ℕ) → Ready before body c → Staged before body c
 ready_staged before body c r = record { gate = r.gate; rest = r.rest; is = r.is }
 

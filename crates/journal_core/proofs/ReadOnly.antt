@@ -14,9 +14,6 @@ use Rattle.journal_core.specs.Reading.{padded, OnlyReads}
 use Rattle.journal_core.proofs.Moments.{over_start, over_elapses, over_quiet, still_self, still_then, extends_then, same_trail}
 
 module _ {D : Type 0} (seen : D → Option (List ℕ)) (images : D → List ℕ → Type 0) (moment : D → ℕ) (since : D → ℕ → List ℕ → Type 0) (trail : D → Option Trail) (syncs : D → ℕ) where
-  pub reads_self : (d : D) → OnlyReads seen images moment since trail syncs d d
-  reads_self d = record { still = still_self (seen d); none = λ c i. i; moments = over_start moment since d (images d); goes_on = same_trail (trail d); same_syncs = refl }
-
   pub reads_then : (a b c : D) → OnlyReads seen images moment since trail syncs a b → OnlyReads seen images moment since trail syncs b c → OnlyReads seen images moment since trail syncs a c
   reads_then a b c p q = record {
     still = still_then (seen a) (seen b) (seen c) p.still q.still;
@@ -30,10 +27,6 @@ module _ {D : Type 0} (seen : D → Option (List ℕ)) (images : D → List ℕ 
   pub reads_call : (told : Type 0) (a b : D) → Still (seen a) (seen b) → NoMore (images a) (images b) → Extends (trail a) (trail b)
       → Elapses told (moment a) (moment b) (since a) (since b) (images a) (images b) → syncs b ≡ syncs a → OnlyReads seen images moment since trail syncs a b
   reads_call told a b still none goes_on time same = record { still = still; none = none; moments = over_elapses moment since images told a b none time; goes_on = goes_on; same_syncs = same }
-
--- a journal over a disk that was only read
-pub stands_less : (old new : List ℕ → Type 0) (gate : ℕ) (trust : Trust) (C B : List Txn) → NoMore old new → Stands old gate trust C B → Stands new gate trust C B
-stands_less old new gate trust C B none s = record { before = s.before; front = s.front; batch = s.batch; each = λ c i. s.each c (none c i) }
 
 -- ---- bytes, and zeros for those that aren't there
 

@@ -68,17 +68,6 @@ module _ (before : List ℕ) (gate : ℕ) (B : List Txn) (was : List ℕ → Typ
 pub clean_body : (gate : ℕ) (before : List ℕ) (A B : List Txn) (c : List ℕ) → InPlace gate Clean before A c → InPlace gate Body before B c
 clean_body gate before A B c p = record { place = p.place; small = p.small; is = p.is }
 
--- what is told is long enough to write at the gate or behind it
-pub shut_reaches : (before : List ℕ) (gate : ℕ) (A : List Txn) (images : List ℕ → Type 0) (seen : Option (List ℕ)) → IfSome seen images
-    → ((c : List ℕ) → images c → InPlace gate Clean before A c) → IfSome seen (λ b. behind gate ≤ length b)
-shut_reaches before gate A images None reads each = tt
-shut_reaches before gate A images (Some b) reads each = let e = each b reads in omega (arith, e.place, shut_long before b e.is)
-
-pub staged_reaches : (before : List ℕ) (gate : ℕ) (B : List Txn) (images : List ℕ → Type 0) (seen : Option (List ℕ)) → IfSome seen images
-    → ((c : List ℕ) → images c → InPlace gate Gate before B c) → IfSome seen (λ b. gate ≤ length b)
-staged_reaches before gate B images None reads each = tt
-staged_reaches before gate B images (Some b) reads each = let e = each b reads in omega (arith, e.place, staged_long before (batch_bytes B) b e.is)
-
 -- a write at the gate or behind it keeps what a read gives before it
 fewer : (g h : ℕ) (x y : List ℕ) → g ≤ h → take h y ≡ take h x → take g y ≡ take g x
 fewer g h x y le same = sym (take-take g h y le) ∙ ap (λ (l : List ℕ). take g l) same ∙ take-take g h x le

@@ -1,6 +1,5 @@
 pub mod Stands
 pub mod History
 pub mod Kept
-pub mod Outcomes
 pub mod Opening
 pub mod Reading

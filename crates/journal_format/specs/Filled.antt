@@ -5,6 +5,7 @@ use Rattle.std.specs.List.{flat_map, All}
 use Rattle.byte_lists.specs.Room.{Roomy}
 use Rattle.message_core.specs.Reading.{Read}
 use Rattle.journal_format.specs.declared.items.Item.{Item}
+use Rattle.journal_format.specs.declared.limits.TheConstants.{MOST_ITEMS, MOST_TXN_BYTES}
 use Rattle.journal_format.specs.Spelling.{Txn, item_bytes, txn_bytes, IsItem}
 use Rattle.journal_format.specs.Reading.{many_at, item_at}
 
@@ -15,18 +16,19 @@ pub record Filled : Type 0 where
 
 -- both limits are kept, and each item is one of a journal
 pub record IsLimited (t : Txn) : Type 0 where
-  pub few : length t ≤ 65536
-  pub short : length (txn_bytes t) ≤ 67108864
+  pub few : length t ≤ MOST_ITEMS
+  pub short : length (txn_bytes t) ≤ MOST_TXN_BYTES
   pub items : All IsItem t
 
 -- one more item keeps both limits
 pub record HasPlace (t : Txn) (item : Item) : Type 0 where
-  pub few : length t < 65536
-  pub short : length (txn_bytes t) + length (item_bytes item) ≤ 67108864
+  pub few : length t < MOST_ITEMS
+  pub short : length (txn_bytes t) + length (item_bytes item) ≤ MOST_TXN_BYTES
 
 -- one more item would break a limit
 abbrev pub IsFull : Txn → Item → Type 0
-IsFull t item = (65536 ≤ length t) ⊎ (67108864 < length (txn_bytes t) + length (item_bytes item))
+IsFull t item =
+    (MOST_ITEMS ≤ length t) ⊎ (MOST_TXN_BYTES < length (txn_bytes t) + length (item_bytes item))
 
 -- ---- how it is kept: the bytes of its items
 

@@ -3,6 +3,7 @@ use Rattle.std.specs.Prelude.{◌≡◌, ℕ, zero, suc, ◌+◌, ◌-◌, min, 
 use Rattle.std.specs.Int.{w32, w64}
 use Rattle.message_core.specs.Spelling.{Content}
 use Rattle.message_core.specs.Reading.{Read, ◌>>=◌, allowed, number_at, byte_at, bytes_at, message_of}
+use Rattle.journal_format.specs.declared.limits.TheConstants.{LONGEST_QUEUE_NAME, MOST_ITEMS}
 use Rattle.journal_format.specs.declared.items.Item.{Item}
 use Rattle.journal_format.specs.declared.items.Item.TheVariants.{Entered, Gone}
 use Rattle.journal_format.specs.Spelling.{Txn}
@@ -39,7 +40,7 @@ many_at one (suc n) bytes = do
 unfoldable pub name_at : List ℕ → Read (List ℕ)
 name_at bytes = do
   len ← byte_at bytes
-  ok ← allowed (nat_le 1 len.0 && (nat_le len.0 64 && nat_le len.0 (length len.1))) (length bytes) len
+  ok ← allowed (nat_le 1 len.0 && (nat_le len.0 LONGEST_QUEUE_NAME && nat_le len.0 (length len.1))) (length bytes) len
   Ok (take ok.0 ok.1, drop ok.0 ok.1)
 
 -- a message has to be persistent: its flag, the byte at 8, is at fault where it is 0, unless an earlier place is
@@ -77,7 +78,7 @@ item_at (suc (suc (suc tag)) ∷ rest) = Err (suc (length rest))
 unfoldable pub txn_at : List ℕ → Read Txn
 txn_at bytes = do
   count ← number_at w32 bytes
-  ok ← allowed (nat_le 1 count.0 && nat_le count.0 65536) (length bytes) count
+  ok ← allowed (nat_le 1 count.0 && nat_le count.0 MOST_ITEMS) (length bytes) count
   many_at item_at ok.0 ok.1
 
 -- a number of transactions, at least 1, and so many transactions

@@ -3,6 +3,7 @@ use Rattle.std.specs.Prelude.{◌≡◌, ℕ, ◌<◌, ◌≤◌, ◌^◌, true,
 use Rattle.std.specs.List.{flat_map, All}
 use Rattle.std.specs.Int.{w32, w64, to_be_bytes}
 use Rattle.message_core.specs.Spelling.{content, text_bytes, IsMessage}
+use Rattle.journal_format.specs.declared.limits.TheConstants.{LONGEST_QUEUE_NAME, MOST_ITEMS}
 use Rattle.journal_format.specs.declared.items.Item.{Item}
 use Rattle.journal_format.specs.declared.items.Item.TheVariants.{Entered, Gone}
 
@@ -37,7 +38,7 @@ batch_bytes ts = to_be_bytes w64 (length (txns_bytes ts)) ++ txns_bytes ts
 
 -- a queue's name in a journal
 abbrev pub IsName : List ℕ → Type 0
-IsName q = (1 ≤ length q) × (length q ≤ 64)
+IsName q = (1 ≤ length q) × (length q ≤ LONGEST_QUEUE_NAME)
 
 -- a persistent message that was put, or an entry that is gone
 abbrev pub IsItem : Item → Type 0
@@ -47,7 +48,7 @@ IsItem (Gone q id) = IsName q × (id < 2 ^ 64)
 -- a transaction that a journal may have
 pub record IsTxn (t : Txn) : Type 0 where
   pub some : 1 ≤ length t
-  pub few : length t ≤ 65536
+  pub few : length t ≤ MOST_ITEMS
   pub items : All IsItem t
 
 -- what an open gate may have behind it

@@ -1,6 +1,7 @@
 //! Batches of transactions, read and written.
 ghost use Rattle.std.specs.Prelude.{◌≡◌, ◌+◌, ◌*◌, ◌≤◌, ◌<◌, ◌^◌, ◌++◌, ◌∷◌, [], ℕ, List, length, drop, IfOk, sum_by};
 ghost use Rattle.std.specs.List.{All, flat_map};
+ghost use Rattle.journal_format.specs.declared.limits.TheConstants.{MOST_TXN_BYTES};
 ghost use Rattle.journal_format.specs.Spelling.{Txn as Listed, txn_bytes, batch_bytes, IsBatch};
 ghost use Rattle.journal_format.specs.Filled.{IsLimited};
 ghost use Rattle.journal_format.specs.Reading.{batch_at};
@@ -34,7 +35,8 @@ pub fn read_batch(alloc: Global, bytes: &[u8], at: u64) -> Result<Batch, BatchFa
     // What is read is a batch, and its bytes stand there.
     ensures found { IfOk result (λ b. IsBatchAt bytes.now at b.txns b.next) }
     // A batch that stands there is read as that batch, unless memory runs out.
-    ensures only { (ts : List Listed) (next : ℕ) → IsBatchAt bytes.now at ts next → IsReadAs result ts next }
+    ensures only { (ts : List Listed) (next : ℕ) → IsBatchAt bytes.now at ts next
+        → IsReadAs result ts next }
     // Where the first fault is.
     ensures exact { Reads result bytes.now at (batch_at (drop at bytes.now)) }
 {
@@ -59,7 +61,7 @@ pub fn read_batch(alloc: Global, bytes: &[u8], at: u64) -> Result<Batch, BatchFa
 fn txns_size(txns: &[Txn]) -> u64
     requires { length txns.now < 2 ^ 32 }
     ensures size { result ≡ sum_by (λ t. length (txn_bytes t.items)) txns.now }
-    ensures most { result ≤ 67108864 * length txns.now }
+    ensures most { result ≤ MOST_TXN_BYTES * length txns.now }
     ensures limited { All (λ t. IsLimited t.items) txns.now }
 {
     let mut size = 0_u64;
@@ -83,7 +85,8 @@ pub fn write_batch(txns: &[Txn], into: &mut Buffer)
     requires some { 1 ≤ length txns.now }
     requires few { length txns.now ≤ 4294967295 }
     requires items { All (λ t. 1 ≤ length t.items) txns.now }
-    requires room { length into.old.bytes + (length (batch_bytes (lists_of txns.now)) + 1) ≤ into.old.room }
+    requires room { length into.old.bytes + (length (batch_bytes (lists_of txns.now)) + 1)
+        ≤ into.old.room }
     ensures batch { IsBatch (lists_of txns.now) }
     ensures bytes { into.new.bytes ≡ into.old.bytes ++ (batch_bytes (lists_of txns.now) ++ 0 ∷ []) }
     ensures room { into.old.room ≤ into.new.room }
@@ -97,7 +100,8 @@ pub fn write_batch(txns: &[Txn], into: &mut Buffer)
 
 /// Puts the transactions at the end, one after the other.
 fn put_txns(txns: &[Txn], into: &mut Buffer)
-    requires room { length into.old.bytes + length (flat_map (λ t. txn_bytes t.items) txns.now) ≤ into.old.room }
+    requires room { length into.old.bytes + length (flat_map (λ t. txn_bytes t.items) txns.now)
+        ≤ into.old.room }
     ensures bytes { into.new.bytes ≡ into.old.bytes ++ flat_map (λ t. txn_bytes t.items) txns.now }
     ensures room { into.old.room ≤ into.new.room }
 {

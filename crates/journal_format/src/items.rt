@@ -64,7 +64,8 @@ fn put_name(tag: u8, queue: &Bytes, into: &mut Buffer)
 /// Puts the encoding of an Entered at the end.
 pub(crate) fn put_entered(queue: &Bytes, message: &Message, into: &mut Buffer)
     requires name { IsName queue.now }
-    requires room { length into.old.bytes + length (item_bytes (Entered queue.now message.now)) ≤ into.old.room }
+    requires room { length into.old.bytes + length (item_bytes (Entered queue.now message.now))
+        ≤ into.old.room }
     ensures bytes { into.new.bytes ≡ into.old.bytes ++ item_bytes (Entered queue.now message.now) }
     ensures room { into.old.room ≤ into.new.room }
 {
@@ -76,7 +77,8 @@ pub(crate) fn put_entered(queue: &Bytes, message: &Message, into: &mut Buffer)
 /// Puts the encoding of a Gone at the end.
 pub(crate) fn put_gone(queue: &Bytes, id: u64, into: &mut Buffer)
     requires name { IsName queue.now }
-    requires room { length into.old.bytes + length (item_bytes (Gone queue.now id)) ≤ into.old.room }
+    requires room { length into.old.bytes + length (item_bytes (Gone queue.now id))
+        ≤ into.old.room }
     ensures bytes { into.new.bytes ≡ into.old.bytes ++ item_bytes (Gone queue.now id) }
     ensures room { into.old.room ≤ into.new.room }
 {

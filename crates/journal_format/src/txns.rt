@@ -32,7 +32,10 @@ impl Model for Txn {
 
     ghost Value = { Filled };
 
-    ghost view = { λ t. record { items = items_in t.count t.bytes.bytes; room = t.bytes.room - length t.bytes.bytes } };
+    ghost view = { λ t. record {
+      items = items_in t.count t.bytes.bytes;
+      room = t.bytes.room - length t.bytes.bytes;
+    } };
 
     ghost invariant = { λ t. IsKept t.count t.bytes };
 }
@@ -54,9 +57,12 @@ impl Txn {
         requires name { IsName queue.now }
         requires persistent { message.now.persistent ≡ true }
         requires room { length (item_bytes (Entered queue.now message.now)) ≤ self.old.room }
-        ensures items { OnOk result (self.new.items ≡ self.old.items ++ Entered queue.now message.now ∷ []) }
-        ensures place { IfOk result (λ at. at + length message.now.body ≡ length (txn_bytes self.new.items)) }
-        ensures room { OnOk result (self.old.room ≤ self.new.room + length (item_bytes (Entered queue.now message.now))) }
+        ensures items { OnOk result
+            (self.new.items ≡ self.old.items ++ Entered queue.now message.now ∷ []) }
+        ensures place { IfOk result
+            (λ at. at + length message.now.body ≡ length (txn_bytes self.new.items)) }
+        ensures room { OnOk result (self.old.room
+            ≤ self.new.room + length (item_bytes (Entered queue.now message.now))) }
         ensures had_place { OnOk result (HasPlace self.old.items (Entered queue.now message.now)) }
         ensures too_long { OnErr result (IsFull self.old.items (Entered queue.now message.now)) }
         ensures unchanged { OnErr result (self.new ≡ self.old) }
@@ -77,7 +83,8 @@ impl Txn {
         requires name { IsName queue.now }
         requires room { length (item_bytes (Gone queue.now id)) ≤ self.old.room }
         ensures items { OnOk result (self.new.items ≡ self.old.items ++ Gone queue.now id ∷ []) }
-        ensures room { OnOk result (self.old.room ≤ self.new.room + length (item_bytes (Gone queue.now id))) }
+        ensures room { OnOk result
+            (self.old.room ≤ self.new.room + length (item_bytes (Gone queue.now id))) }
         ensures had_place { OnOk result (HasPlace self.old.items (Gone queue.now id)) }
         ensures too_long { OnErr result (IsFull self.old.items (Gone queue.now id)) }
         ensures unchanged { OnErr result (self.new ≡ self.old) }
@@ -135,8 +142,10 @@ fn txn_size(items: &[u8]) -> u64
 
 /// Whether one more item of so many bytes keeps both limits, where there are `count` items with these bytes.
 fn has_place(count: u32, items: &[u8], size: u64) -> bool
-    ensures holds { OnTrue result ((count < 65536) × (4 + length items.now + size ≤ 67108864)) }
-    ensures breaks { OnFalse result ((65536 ≤ count) ⊎ (67108864 < 4 + length items.now + size)) }
+    ensures holds { OnTrue result ((count < MOST_ITEMS)
+        × (4 + length items.now + size ≤ MOST_TXN_BYTES)) }
+    ensures breaks { OnFalse result ((MOST_ITEMS ≤ count)
+        ⊎ (MOST_TXN_BYTES < 4 + length items.now + size)) }
 {
     count < MOST_ITEMS && txn_size(items).saturating_add(size) <= MOST_TXN_BYTES
 }

@@ -80,7 +80,8 @@ pub record Does (s : Standing) (calls : List Did) (hands : List Hand) (dids : Li
 -- Puts and takes
 
 -- a put: its entry is reserved, and put with the slip that the message has in this queue
-pub record Puts (defs : List Defined) (s : Standing) (q : ℕ) (m : Content) (dids : List Did) (s' : Standing) : Type 0 where
+pub record Puts (defs : List Defined) (s : Standing) (q : ℕ) (m : Content) (dids : List Did)
+    (s' : Standing) : Type 0 where
   pub def : Defined
   pub defined : slice_get defs q ≡ Some def
   pub slip : Slip
@@ -110,7 +111,12 @@ pub record Gets (defs : List Defined) (s : Standing) (c id n : ℕ) (dids : List
   pub number : n ≡ number_after load.count
   pub delivery : Delivery
   pub told : IsDelivery c queue n load delivery
-  pub leaves : s' ≡ record s { hands = gained (in_hands queue row (delivered n load)) s.hands; seats = slice_set s.seats c (Some (served seat delivery)) }
+  pub leaves :
+      s'
+      ≡ record s {
+        hands = gained (in_hands queue row (delivered n load)) s.hands;
+        seats = slice_set s.seats c (Some (served seat delivery));
+      }
 
 -- a take that found nothing
 pub record Misses (defs : List Defined) (s : Standing) (c : ℕ) (dids : List Did) (s' : Standing) : Type 0 where
@@ -135,7 +141,8 @@ pub record OnHeld (s : Standing) (q : ℕ) (named : Option ℕ) (P : Hand → Ty
 
 -- the entry was left unlocked, and somebody took it since
 abbrev pub IsTaken : Standing → RowState → List Did → Standing → Hand → Type 0
-IsTaken s state dids s' k = (k.cargo ≡ None) × Does s (On k.queue (CallLock k.row) (IsStolen state) ∷ []) (lost k s.hands) dids s'
+IsTaken s state dids s' k =
+    (k.cargo ≡ None) × Does s (On k.queue (CallLock k.row) (IsStolen state) ∷ []) (lost k s.hands) dids s'
 
 -- an acknowledgement: locked first where needed, and taken out of the queue
 pub record Acks (s : Standing) (id : ℕ) (dids : List Did) (s' : Standing) (k : Hand) : Type 0 where
@@ -149,7 +156,9 @@ pub record Frees (s : Standing) (id : ℕ) (dids : List Did) (s' : Standing) (k 
   pub same_id : id ≡ k.id
   pub load : Load
   pub mask : ℕ
-  pub does : Does s (lock_first k load ++ (On k.queue (CallRelease k.row (cargo_of k load)) (IsReleased mask) ∷ [])) (lost k s.hands) dids s'
+  pub does : Does s
+      (lock_first k load ++ (On k.queue (CallRelease k.row (cargo_of k load)) (IsReleased mask) ∷ []))
+      (lost k s.hands) dids s'
 
 -- a lock of an entry that was left unlocked
 pub record Locks (s : Standing) (id : ℕ) (dids : List Did) (s' : Standing) (k : Hand) : Type 0 where
@@ -190,7 +199,8 @@ pub record Steals (s : Standing) (q id : ℕ) (dids : List Did) (s' : Standing) 
 -- The answer fits the line, where the actor stood like this; the line made these calls; and the actor then stands like
 -- that. An answer that a line never has does not fit it.
 abbrev pub LineFits : List Defined → Standing → What → report.Answer → List Did → Standing → Type 0
-LineFits defs s (Put q m) (Accepted id flowed dropped) dids s' = (id ≡ m.id) × (flowed ≡ false) × (dropped ≡ nothing_dropped) × Puts defs s q m dids s'
+LineFits defs s (Put q m) (Accepted id flowed dropped) dids s' =
+    (id ≡ m.id) × (flowed ≡ false) × (dropped ≡ nothing_dropped) × Puts defs s q m dids s'
 LineFits defs s (Take c) Closed dids s' = (seat_at s.seats c ≡ None) × Idle s dids s'
 LineFits defs s (Take c) NoCredit dids s' = IsFull s c × Idle s dids s'
 LineFits defs s (Take c) Empty dids s' = Misses defs s c dids s'
@@ -208,7 +218,8 @@ LineFits defs s (Lock q named) NotHeld dids s' = NoneUnlocked (meant q named s.h
 LineFits defs s (Unlock q named) (Unlocked id) dids s' = OnHeld s q named (Leaves s id dids s')
 LineFits defs s (Unlock q named) NotHeld dids s' = NoneLocked (meant q named s.hands) × Idle s dids s'
 LineFits defs s (Steal q id) (Stole told) dids s' = (told ≡ id) × Steals s q id dids s'
-LineFits defs s (Steal q id) (NotStealable state) dids s' = (row : ℕ) × Does s (tried q id row (IsNotStealable state)) s.hands dids s'
+LineFits defs s (Steal q id) (NotStealable state) dids s' =
+    (row : ℕ) × Does s (tried q id row (IsNotStealable state)) s.hands dids s'
 LineFits defs s (Steal q id) (Moved state) dids s' = (row : ℕ) × Does s (tried q id row (IsMoved state)) s.hands dids s'
 LineFits defs s (Steal q id) Absent dids s' = Does s (On q (CallFind id) (IsFound None) ∷ []) s.hands dids s'
 LineFits defs s what answer dids s' = ⊥
@@ -217,7 +228,8 @@ LineFits defs s what answer dids s' = ⊥
 abbrev pub LinesFit : List Defined → Standing → List Op → List report.Answer → List Did → Standing → Type 0
 LinesFit defs s [] [] dids s' = (dids ≡ []) × (s' ≡ s)
 LinesFit defs s (op ∷ ops) (a ∷ answers) dids s' =
-    (first : List Did) × (mid : Standing) × (others : List Did) × LineFits defs s op.what a first mid × LinesFit defs mid ops answers others s' × (dids ≡ first ++ others)
+    (first : List Did) × (mid : Standing) × (others : List Did) × LineFits defs s op.what a first mid
+    × LinesFit defs mid ops answers others s' × (dids ≡ first ++ others)
 LinesFit defs s ops answers dids s' = ⊥
 
 -- The calls after an actor's last line: each locked entry in the hands is unlocked, in order.

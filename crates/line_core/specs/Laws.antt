@@ -22,7 +22,8 @@ CallsAppend = (q : ℕ) (ds es : List Did) → calls_on q (ds ++ es) ≡ calls_o
 -- lines after lines
 abbrev pub FitsAppend : Type 0
 FitsAppend =
-    (defs : List Defined) (s : Standing) (ops : List Op) (answers : List report.Answer) (dids : List Did) (mid : Standing)
+    (defs : List Defined) (s : Standing) (ops : List Op) (answers : List report.Answer) (dids : List Did)
+    (mid : Standing)
     (more : List Op) (replies : List report.Answer) (rest : List Did) (end : Standing)
     → LinesFit defs s ops answers dids mid → LinesFit defs mid more replies rest end
     → LinesFit defs s (ops ++ more) (answers ++ replies) (dids ++ rest) end
@@ -31,7 +32,8 @@ FitsAppend =
 abbrev pub GotIsHeld : Type 0
 GotIsHeld =
     (defs : List Defined) (s s' : Standing) (c id n : ℕ) (dids : List Did) → LineFits defs s (Take c) (Got id n) dids s'
-    → (k : Hand) × (meant k.queue (Some id) s'.hands ≡ Some k) × ((load : Load) × (k.cargo ≡ Some load) × (load.count ≡ n))
+    → (k : Hand) × (meant k.queue (Some id) s'.hands ≡ Some k)
+    × ((load : Load) × (k.cargo ≡ Some load) × (load.count ≡ n))
 
 -- Calls by a pass
 

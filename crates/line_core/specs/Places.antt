@@ -9,7 +9,8 @@ use Rattle.target_core.specs.declared.deliveries.Delivery.{Delivery}
 -- the queue of consumer c, counted over all queues from queue q on, and its number there
 abbrev pub place_from : ℕ → List Defined → ℕ → Option (ℕ × ℕ)
 place_from q [] c = None
-place_from q (def ∷ defs) c = if nat_lt c (length def.consumers) then Some (q, c) else place_from (q + 1) defs (c - length def.consumers)
+place_from q (def ∷ defs) c =
+    if nat_lt c (length def.consumers) then Some (q, c) else place_from (q + 1) defs (c - length def.consumers)
 
 -- the queue of consumer c, and its number there
 abbrev pub place_of : List Defined → ℕ → Option (ℕ × ℕ)
@@ -29,7 +30,16 @@ is_full s = is_at s.limit (length s.deliveries)
 pub record IsDelivery (c q n : ℕ) (load : Load) (d : Delivery) : Type 0 where
   pub message : Content
   pub whole : length load.content ≡ load.size → load.content ≡ content message
-  pub told : d ≡ record { consumer = c; queue = q; id = load.id; delivered = n; length = length message.body; sum = sum_of message.body }
+  pub told :
+      d
+      ≡ record {
+        consumer = c;
+        queue = q;
+        id = load.id;
+        delivered = n;
+        length = length message.body;
+        sum = sum_of message.body;
+      }
 
 -- where a target stands, it has room for so many deliveries more, or for as many as its limit leaves
 abbrev pub IsReady : ℕ → Option Seat → Type 0

@@ -40,17 +40,20 @@ pub record RanOn (build : Build) (calls : List (Call × Answer)) (old new : Sigh
 -- and on each queue those of these
 pub record Ran (builds : List Build) (old : List Sight) (dids : List Did) (new : List Sight) : Type 0 where
   pub as_many : length new ≡ length old
-  pub on_each : (q : ℕ) (b : Build) (s t : Sight) → slice_get builds q ≡ Some b → slice_get old q ≡ Some s → slice_get new q ≡ Some t → RanOn b (calls_on q dids) s t
+  pub on_each : (q : ℕ) (b : Build) (s t : Sight) → slice_get builds q ≡ Some b → slice_get old q ≡ Some s
+      → slice_get new q ≡ Some t → RanOn b (calls_on q dids) s t
 
 -- one line, by one queue's pass
-pub record DidOn (defs : List Defined) (build : Build) (q : ℕ) (old : Sight) (s : Standing) (w : What) (a : report.Answer) (new : Sight) (s' : Standing) : Type 0 where
+pub record DidOn (defs : List Defined) (build : Build) (q : ℕ) (old : Sight) (s : Standing) (w : What)
+    (a : report.Answer) (new : Sight) (s' : Standing) : Type 0 where
   pub dids : List Did
   pub fits : LineFits defs s w a dids s'
   pub here : RanOn build (calls_on q dids) old new
   pub elsewhere : (r : ℕ) → (r ≡ q → ⊥) → calls_on r dids ≡ []
 
 -- lines, one after the other, by all passes of an actor
-pub record DidLines (defs : List Defined) (builds : List Build) (old : List Sight) (s : Standing) (ops : List Op) (answers : List report.Answer) (new : List Sight) (s' : Standing) : Type 0 where
+pub record DidLines (defs : List Defined) (builds : List Build) (old : List Sight) (s : Standing)
+    (ops : List Op) (answers : List report.Answer) (new : List Sight) (s' : Standing) : Type 0 where
   pub dids : List Did
   pub fits : LinesFit defs s ops answers dids s'
   pub ran : Ran builds old dids new

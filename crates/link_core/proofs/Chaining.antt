@@ -1,5 +1,5 @@
 -- chains that grow by a row at the end
-use Rattle.std.proofs.Common.{◌≡◌, ◌≢◌, ◌⊎◌, inl, inr, ℕ, suc, ◌+◌, ◌*◌, ◌<◌, true, false, Some, None, List, [], ◌∷◌, ◌++◌, cond, filter, find, length, refl, sym, ap, ◌∙◌, subst, ⊎_elim, ne_eqb, eqb-true, arith}
+use Rattle.std.proofs.Common.{◌≡◌, ◌≢◌, ◌⊎◌, inl, inr, ℕ, suc, ◌+◌, ◌<◌, true, false, Some, None, List, [], ◌∷◌, ◌++◌, cond, filter, find, length, refl, sym, ap, ◌∙◌, subst, ⊎_elim, ne_eqb, eqb-true, arith}
 use Rattle.std.specs.Prelude.{slice_index, slice_set}
 use Rattle.std.specs.List.{position_or_len, AllByRecursion}
 use Rattle.std.proofs.lemmas.Bool.{cases_Bool, cond-false, eqb-false}
@@ -77,7 +77,7 @@ last_place words w a (z ∷ zs) y found empty chain = ⊎_elim
     (cases_Bool (is_row a z))
 
 -- no row has a number that is not found
-none_numbered : (a : ℕ) (xs : List Row) → find (is_row a) xs ≡ None → AllByRecursion (λ y. y.number ≢ a) xs
+pub none_numbered : (a : ℕ) (xs : List Row) → find (is_row a) xs ≡ None → AllByRecursion (λ y. y.number ≢ a) xs
 none_numbered a [] e = tt
 none_numbered a (x ∷ xs) e = (eqb-false x.number a (find_none-head (is_row a) x xs e), none_numbered a xs (find_none-tail (is_row a) x xs e))
 

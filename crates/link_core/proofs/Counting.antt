@@ -1,5 +1,5 @@
 -- the number of callers, which stands for nothing of the queue
-use Rattle.std.proofs.Common.{◌≡◌, ℕ, ◌<◌, arith}
+use Rattle.std.proofs.Common.{ℕ, arith}
 use Rattle.std.specs.Prelude.{slice_set}
 use Rattle.queue_model.specs.declared.queues.Queue.{Queue}
 use Rattle.link_core.specs.declared.places.TheConstants.{CALLERS}

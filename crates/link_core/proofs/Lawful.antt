@@ -1,9 +1,10 @@
 -- each step that fits is its deed, and so is each list of steps
-use Rattle.std.proofs.Common.{replicate, ◌≡◌, ℕ, Result, Ok, Err, Bool, true, false, cond, List, [], ◌∷◌, sym, subst, ⊎_elim, eqb-true}
+use Rattle.std.proofs.Common.{replicate, ◌≡◌, ℕ, suc, ◌+◌, ◌^◌, Result, Ok, Err, Bool, true, false, cond, List, [], ◌∷◌, sym, subst, ⊎_elim, eqb-true}
+use Rattle.std.specs.Prelude.{◌%◌}
 use Rattle.std.proofs.lemmas.Bool.{cases_Bool, ltb-true}
 use Rattle.queue_model.specs.declared.queues.Queue.{Queue}
 use Rattle.queue_model.specs.declared.steps.Step.{Step}
-use Rattle.queue_model.specs.declared.steps.Step.TheVariants.{Draw, Draft, Link, HelpTail, Load, State, Reserve, GiveBack}
+use Rattle.queue_model.specs.declared.steps.Step.TheVariants.{Draw, Draft, Link, HelpTail, Load, State, Unlink, Mark, Count, Reset, Reserve, GiveBack}
 use Rattle.queue_model.specs.History.{after, Legal, deeds_of}
 use Rattle.queue_model.specs.State.{empty}
 use Rattle.queue_model.proofs.Histories.{after-append, legal-append}
@@ -22,7 +23,9 @@ use Rattle.link_core.proofs.Drawing.{draw_kept, draft_kept}
 use Rattle.link_core.proofs.Helping.{help_step}
 use Rattle.link_core.proofs.Linking.{link_step}
 use Rattle.link_core.proofs.Making.{fresh_stands}
+use Rattle.link_core.proofs.Marking.{mark_step, count_kept}
 use Rattle.link_core.proofs.Reserving.{reserve_kept, give_back_kept}
+use Rattle.link_core.proofs.Unlinking.{unlink_step}
 
 -- a step that changes its word
 pub hit_step : (t : Table) (q : Queue) (h : ℕ) (step : Step) → Stands t q → Fits t h step → hits t step ≡ true → Legal q (deeds_of h (acts_in t step)) × Stands (changed_by t h step) (after q (deeds_of h (acts_in t step)))
@@ -32,6 +35,10 @@ hit_step t q h (Link r node) s fits hit = let p = link_step t q h r node (replic
 hit_step t q h (HelpTail l from to) s fits hit = (tt, help_step t q h l from to s fits)
 hit_step t q h (Load name) s fits hit = let bad : false ≡ true = hit in absurd (cc)
 hit_step t q h (State r change from) s fits hit = let p = state_step t q h r 0 change from s fits (eqb-true (shown t (State r change from)) (pack_state from) hit) in ((p.0, tt), p.1)
+hit_step t q h (Unlink at from to) s fits hit = (tt, unlink_step t q at from to s fits h (eqb-true (shown t (Unlink at from to)) (suc from) hit))
+hit_step t q h (Mark l n) s fits hit = (tt, mark_step t q h l n s fits)
+hit_step t q h (Count l) s fits hit = (tt, count_kept t q h l ((shown t (Count l) + 1) % 2 ^ 64) s fits)
+hit_step t q h (Reset l) s fits hit = (tt, count_kept t q h l 0 s fits)
 hit_step t q h (Reserve size) s fits hit = let p = reserve_kept t q h size s fits.0 fits.1 in ((p.0, tt), p.1)
 hit_step t q h (GiveBack size) s fits hit = let p = give_back_kept t q h size s fits in ((p.0, tt), p.1)
 

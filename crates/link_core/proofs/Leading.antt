@@ -1,13 +1,11 @@
 -- the link of each row leads into what stands behind it
-use Rattle.std.proofs.Common.{◌≡◌, ℕ, ◌<◌, List, [], ◌∷◌, ◌++◌, ap, subst}
+use Rattle.std.proofs.Common.{ℕ, List, [], ◌∷◌, ◌++◌, subst}
 use Rattle.std.specs.Prelude.{slice_index}
-use Rattle.queue_model.specs.declared.queues.Queue.{Queue}
 use Rattle.queue_model.specs.declared.rows.Row.{Row}
 use Rattle.queue_model.specs.State.{rows_of}
 use Rattle.link_core.specs.Layout.{row_link_of, head_of}
 use Rattle.link_core.specs.Laws.{LinksPoint}
-use Rattle.link_core.specs.Stands.{Points, Chain, Stands}
-use Rattle.link_core.specs.Table.{Table}
+use Rattle.link_core.specs.Stands.{Points, Chain}
 
 -- the first link of a chain points
 pub chain_points : (words : List ℕ) (w : ℕ) (rows : List Row) → Chain words w rows → Points w rows

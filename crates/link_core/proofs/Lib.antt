@@ -7,6 +7,10 @@ pub mod Changing
 pub mod Helping
 pub mod Chaining
 pub mod Linking
+pub mod InLists
+pub mod Skipping
+pub mod Unlinking
+pub mod Marking
 pub mod Stored
 pub mod Making
 pub mod Lawful

@@ -1,5 +1,5 @@
 -- a row that is linked
-use Rattle.std.proofs.Common.{◌≡◌, ◌≢◌, ◌⊎◌, inl, inr, ℕ, suc, ◌+◌, ◌*◌, ◌^◌, ◌<◌, Some, None, IsSome, List, [], ◌∷◌, ◌++◌, find, length, refl, sym, ap, ap₂, ◌∙◌, subst, ⊎_elim, eq-eqb, ne_eqb, append-nil, arith}
+use Rattle.std.proofs.Common.{◌≡◌, ◌≢◌, ◌⊎◌, inl, inr, ℕ, suc, ◌^◌, ◌<◌, Some, None, IsSome, List, [], ◌∷◌, ◌++◌, find, length, refl, sym, ap, ap₂, ◌∙◌, subst, ⊎_elim, eq-eqb, ne_eqb, append-nil, arith}
 use Rattle.std.specs.Prelude.{slice_index, slice_set}
 use Rattle.std.specs.List.{position_or_len, AllByRecursion}
 use Rattle.std.proofs.lemmas.Bool.{cases_eq, cond-true, cond-false}
@@ -34,21 +34,21 @@ use Rattle.link_core.proofs.Frames.{but_here, but_else, set_else, draft_low, dra
 use Rattle.link_core.proofs.Reserving.{reserved_after_act}
 
 -- What is known of a node of list l whose link is the word i
-record NodeFacts (t : Table) (q : Queue) (node : Node) (l i : ℕ) : Type 0 where
-  low : l < t.lists
-  long : i < length t.words
-  among : Among i (head_of t.rows l) (rows_of q l)
-  others : (k : ℕ) → k ≢ l → AllByRecursion (λ y. row_link_of y.number ≢ i) (rows_of q k)
-  heads : (k : ℕ) → k < t.lists → k ≢ l → head_of t.rows k ≢ i
-  new : (r : ℕ) → r < t.rows → row_at q r ≡ None → row_link_of r ≢ i
-  place : slice_index t.words i ≡ 0 → place_behind t node ≡ length (rows_of q l)
-  first : TOP ≢ i
-  depth : DEPTH ≢ i
-  tails : (k : ℕ) → k < t.lists → tail_of t.rows k ≢ i
-  marks : (k : ℕ) → k < t.lists → mark_of t.rows k ≢ i
-  bells : (c k : ℕ) → c < t.consumers → k < t.lists → bell_of t.rows c k ≢ i
-  states : (r : ℕ) → r < t.rows → state_of r ≢ i
-  drafted : (r : ℕ) → r < t.rows → (w : DraftWord) → draft_of r w ≢ i
+pub record NodeFacts (t : Table) (q : Queue) (node : Node) (l i : ℕ) : Type 0 where
+  pub low : l < t.lists
+  pub long : i < length t.words
+  pub among : Among i (head_of t.rows l) (rows_of q l)
+  pub others : (k : ℕ) → k ≢ l → AllByRecursion (λ y. row_link_of y.number ≢ i) (rows_of q k)
+  pub heads : (k : ℕ) → k < t.lists → k ≢ l → head_of t.rows k ≢ i
+  pub new : (r : ℕ) → r < t.rows → row_at q r ≡ None → row_link_of r ≢ i
+  pub place : slice_index t.words i ≡ 0 → place_behind t node ≡ length (rows_of q l)
+  pub first : TOP ≢ i
+  pub depth : DEPTH ≢ i
+  pub tails : (k : ℕ) → k < t.lists → tail_of t.rows k ≢ i
+  pub marks : (k : ℕ) → k < t.lists → mark_of t.rows k ≢ i
+  pub bells : (c k : ℕ) → c < t.consumers → k < t.lists → bell_of t.rows c k ≢ i
+  pub states : (r : ℕ) → r < t.rows → state_of r ≢ i
+  pub drafted : (r : ℕ) → r < t.rows → (w : DraftWord) → draft_of r w ≢ i
 
 head_facts : (t : Table) (q : Queue) (l : ℕ) → Stands t q → l < t.lists → NodeFacts t q (nodes.Head l) l (head_of t.rows l)
 head_facts t q l s lt =
@@ -97,7 +97,7 @@ row_facts t q a l z s found list =
       drafted = λ r less w. omega (arith, draft_low r w, draft_high r w);
     }
 
-node_facts : (t : Table) (q : Queue) (node : Node) (l : ℕ) → Stands t q → IsNode t node → list_of_node t node ≡ l → NodeFacts t q node l (link_of t.rows node)
+pub node_facts : (t : Table) (q : Queue) (node : Node) (l : ℕ) → Stands t q → IsNode t node → list_of_node t node ≡ l → NodeFacts t q node l (link_of t.rows node)
 node_facts t q (nodes.Head m) l s lt e = subst (λ (k : ℕ). NodeFacts t q (nodes.Head m) k (head_of t.rows m)) e (head_facts t q m s lt)
 node_facts t q (nodes.Row a) l s linked e = let row = linked_row t q a s linked in row_facts t q a l row.0 s row.1 e
 

@@ -1,5 +1,5 @@
 -- a fresh table stands for an empty queue
-use Rattle.std.proofs.Common.{◌≡◌, inl, ℕ, zero, suc, ◌+◌, ◌-◌, ◌*◌, ◌<◌, ◌≤◌, List, [], ◌∷◌, ◌++◌, length, get_or, set, replicate, ⊎_elim, refl, ap, ◌∙◌, append-nil, append_assoc, length-append, arith, Option, None, subst, sym}
+use Rattle.std.proofs.Common.{◌≡◌, inl, ℕ, zero, suc, ◌+◌, ◌-◌, ◌*◌, ◌<◌, ◌≤◌, List, [], ◌∷◌, ◌++◌, length, get_or, replicate, ⊎_elim, refl, ap, ◌∙◌, append-nil, append_assoc, length-append, arith, Option, None, subst, sym}
 use Rattle.std.specs.Prelude.{slice_index}
 use Rattle.std.proofs.lemmas.Bool.{cases_lt}
 use Rattle.std.proofs.lemmas.List.{get_or_past, length-replicate, get_or-replicate, get_or_append_left, get_or-append_right}

@@ -4,7 +4,7 @@ use Rattle.std.proofs.lemmas.Bool.{cases_eq}
 use Rattle.queue_model.specs.declared.queues.Reservation.{Reservation}
 use Rattle.queue_model.specs.declared.steps.Change.TheVariants.{Acq, Lock, Unlock, Steal, Rel, Deq, Del}
 use Rattle.queue_model.specs.declared.steps.Step.{Step}
-use Rattle.queue_model.specs.declared.steps.Step.TheVariants.{Draw, Draft, Link, HelpTail, Load, State, Reserve, GiveBack}
+use Rattle.queue_model.specs.declared.steps.Step.TheVariants.{Draw, Draft, Link, HelpTail, Load, State, Unlink, Mark, Count, Reset, Reserve, GiveBack}
 use Rattle.link_core.specs.Kept.{drawers_of}
 use Rattle.link_core.specs.Steps.{changed_by, place_of_step, word_after, drawer_after, reserves_after}
 use Rattle.link_core.specs.Table.{Table, top, but}
@@ -24,6 +24,10 @@ reserves_holder t h (State r Steal from) = refl
 reserves_holder t h (State r Rel from) = refl
 reserves_holder t h (State r Deq from) = refl
 reserves_holder t h (State r Del from) = refl
+reserves_holder t h (Unlink at from to) = refl
+reserves_holder t h (Mark l n) = refl
+reserves_holder t h (Count l) = refl
+reserves_holder t h (Reset l) = refl
 reserves_holder t h (Reserve size) = refl
 reserves_holder t h (GiveBack size) = refl
 

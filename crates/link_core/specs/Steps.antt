@@ -1,5 +1,5 @@
 -- steps on words: when a step fits, what it shows, which act it is, and what it leaves
-use Rattle.std.specs.Prelude.{◌≡◌, ℕ, ◌+◌, ◌-◌, ◌/◌, ◌^◌, ◌<◌, ◌≤◌, Bool, true, false, ◌==◌, nat_lt, if◌then◌else◌, suc, Option, Some, None, List, [], ◌∷◌, ◌++◌, slice_index, slice_set, replicate}
+use Rattle.std.specs.Prelude.{◌≡◌, ℕ, ◌+◌, ◌-◌, ◌/◌, ◌%◌, ◌^◌, ◌<◌, ◌≤◌, Bool, true, false, ◌==◌, nat_lt, if◌then◌else◌, suc, Option, Some, None, List, [], ◌∷◌, ◌++◌, slice_index, slice_set, replicate}
 use Rattle.queue_model.specs.declared.deeds.Act.{Act}
 use Rattle.queue_model.specs.declared.deeds.Act.TheVariants as acts
 use Rattle.queue_model.specs.declared.deeds.Deed.{Deed}
@@ -13,13 +13,13 @@ use Rattle.queue_model.specs.declared.steps.DraftWord.TheVariants as drafts
 use Rattle.queue_model.specs.declared.steps.Node.{Node}
 use Rattle.queue_model.specs.declared.steps.Node.TheVariants as nodes
 use Rattle.queue_model.specs.declared.steps.Step.{Step}
-use Rattle.queue_model.specs.declared.steps.Step.TheVariants.{Draw, Draft, Link, HelpTail, Load, State, Reserve, GiveBack}
+use Rattle.queue_model.specs.declared.steps.Step.TheVariants.{Draw, Draft, Link, HelpTail, Load, State, Unlink, Mark, Count, Reset, Reserve, GiveBack}
 use Rattle.queue_model.specs.declared.steps.WordName.{WordName}
 use Rattle.queue_model.specs.declared.steps.WordName.TheVariants as names
 use Rattle.queue_model.specs.History.{deeds_of}
 use Rattle.queue_model.specs.Table.{CanGive, most_bytes, most_entries, with_more, with_less}
 use Rattle.link_core.specs.declared.places.TheConstants.{TOP, DEPTH}
-use Rattle.link_core.specs.Layout.{link_of, tail_of, state_of, draft_of, place_of_word}
+use Rattle.link_core.specs.Layout.{link_of, tail_of, mark_of, count_of, state_of, draft_of, place_of_word}
 use Rattle.queue_model.specs.Packing.{pack_state, pack_node, entry_worth}
 use Rattle.link_core.specs.Table.{Table, top, but, IsLinked, IsNode, list_of_node}
 
@@ -124,6 +124,46 @@ pub record FitsState (t : Table) (h r : ℕ) (change : Change) (from : RowState)
   pub goes : GoesFrom h change from
   pub packable : IsPackable from
 
+-- the state word of the row packs Deleted
+abbrev pub IsGone : Table → ℕ → Type 0
+IsGone t r = slice_index t.words (state_of r) ≡ pack_state Deleted
+
+-- row r comes between two rows, in the list of the first
+pub record IsBetween (t : Table) (from to r : ℕ) : Type 0 where
+  pub list : list_in t r ≡ list_in t from
+  pub behind : place_in t from < place_in t r
+  pub before : place_in t r < place_in t to
+
+-- row r is deleted, if it is linked and comes between the two
+abbrev pub IsGoneBetween : Table → ℕ → ℕ → ℕ → Type 0
+IsGoneBetween t from to r = IsLinked t r → IsBetween t from to r → IsGone t r
+
+-- each linked row between the two is deleted
+abbrev pub AreGone : Table → ℕ → ℕ → Type 0
+AreGone t from to = (r : ℕ) → IsGoneBetween t from to r
+
+-- The link of a head or of a linked row may move from a deleted row to a later one of the same list, where each row
+-- between is deleted too.
+pub record FitsUnlink (t : Table) (at : Node) (from to : ℕ) : Type 0 where
+  pub node : IsNode t at
+  pub out : IsLinked t from
+  pub next : IsLinked t to
+  pub gone : IsGone t from
+  pub list : list_in t to ≡ list_in t from
+  pub later : place_in t from < place_in t to
+  pub between : AreGone t from to
+
+-- row r is linked, in list l at this place
+pub record IsLinkedAt (t : Table) (l at r : ℕ) : Type 0 where
+  pub row : IsLinked t r
+  pub list : list_in t r ≡ l
+  pub place : place_in t r ≡ at
+
+-- the mark of a list may move to the place of a row that is linked in it
+pub record FitsMark (t : Table) (l place : ℕ) : Type 0 where
+  pub list : l < t.lists
+  pub row : (r : ℕ) × IsLinkedAt t l place r
+
 -- the step of caller h fits the words
 abbrev pub Fits : Table → ℕ → Step → Type 0
 Fits t h Draw = Unit {0}
@@ -132,6 +172,10 @@ Fits t h (Link r node) = FitsLink t h r node
 Fits t h (HelpTail l from to) = FitsHelpTo t l from to
 Fits t h (Load name) = HasWord t name
 Fits t h (State r change from) = FitsState t h r change from
+Fits t h (Unlink at from to) = FitsUnlink t at from to
+Fits t h (Mark l place) = FitsMark t l place
+Fits t h (Count l) = l < t.lists
+Fits t h (Reset l) = l < t.lists
 Fits t h (Reserve size) = (size ≤ most_bytes) × (slice_index t.words DEPTH / entry_worth < most_entries)
 Fits t h (GiveBack size) = CanGive (t.reserved h) size
 
@@ -145,6 +189,10 @@ place_of_step rows (Link r node) = link_of rows node
 place_of_step rows (HelpTail l from to) = tail_of rows l
 place_of_step rows (Load name) = place_of_word rows name
 place_of_step rows (State r change from) = state_of r
+place_of_step rows (Unlink at from to) = link_of rows at
+place_of_step rows (Mark l place) = mark_of rows l
+place_of_step rows (Count l) = count_of rows l
+place_of_step rows (Reset l) = count_of rows l
 place_of_step rows (Reserve size) = DEPTH
 place_of_step rows (GiveBack size) = DEPTH
 
@@ -153,7 +201,7 @@ abbrev pub shown : Table → Step → ℕ
 shown t s = slice_index t.words (place_of_step t.rows s)
 
 -- Whether the step changes its word. An exchange that shows another word than the expected one is a load, and so is a
--- draw where no row is left.
+-- draw where no row is left. Of two marks the greater stands.
 abbrev pub hits : Table → Step → Bool
 hits t Draw = nat_lt (shown t Draw) t.rows
 hits t (Draft r w value) = true
@@ -161,6 +209,10 @@ hits t (Link r node) = shown t (Link r node) == 0
 hits t (HelpTail l from to) = shown t (HelpTail l from to) == pack_node from
 hits t (Load name) = false
 hits t (State r change from) = shown t (State r change from) == pack_state from
+hits t (Unlink at from to) = shown t (Unlink at from to) == suc from
+hits t (Mark l place) = nat_lt (shown t (Mark l place)) place
+hits t (Count l) = true
+hits t (Reset l) = true
 hits t (Reserve size) = true
 hits t (GiveBack size) = true
 
@@ -181,7 +233,7 @@ abbrev pub reserved_after : Change → Reservation → ℕ → Reservation
 reserved_after Deq v size = with_more v size
 reserved_after change v size = v
 
--- the word that a step leaves where it changes it
+-- The word that a step leaves where it changes it. Behind the greatest number a count begins again at 0.
 abbrev pub word_after : Table → ℕ → Step → ℕ
 word_after t h Draw = top t + 1
 word_after t h (Draft r w value) = value
@@ -189,6 +241,10 @@ word_after t h (Link r node) = suc r
 word_after t h (HelpTail l from to) = pack_node to
 word_after t h (Load name) = shown t (Load name)
 word_after t h (State r change from) = pack_state (goes_to h change)
+word_after t h (Unlink at from to) = suc to
+word_after t h (Mark l place) = place
+word_after t h (Count l) = (shown t (Count l) + 1) % 2 ^ 64
+word_after t h (Reset l) = 0
 word_after t h (Reserve size) = slice_index t.words DEPTH + (entry_worth + size)
 word_after t h (GiveBack size) = slice_index t.words DEPTH - (entry_worth + size)
 

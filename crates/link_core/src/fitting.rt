@@ -5,10 +5,10 @@ ghost use Rattle.link_core.specs.declared.places.TheConstants.{DEPTH};
 ghost use Rattle.link_core.specs.Kept.{IsKept, table_in};
 ghost use Rattle.link_core.specs.Layout.{draft_of};
 ghost use Rattle.queue_model.specs.Packing.{entry_worth};
-ghost use Rattle.link_core.specs.Steps.{Fits, FitsHelp, FitsHelpTo, FitsBehind, FitsLink, FitsState, GoesFrom, HasWord, IsBehind, IsDrawnBy, IsPackable, place_behind, place_in};
+ghost use Rattle.link_core.specs.Steps.{AreGone, Fits, FitsHelp, FitsHelpTo, FitsBehind, FitsLink, FitsMark, FitsState, FitsUnlink, GoesFrom, IsBetween, IsGone, IsGoneBetween, IsLinkedAt, HasWord, IsBehind, IsDrawnBy, IsPackable, place_behind, place_in};
 ghost use Rattle.link_core.specs.Table.{IsLinked, IsNode, list_of_node};
 
-use crate::places::{DEPTH, TOP, draft_place};
+use crate::places::{DEPTH, TOP, draft_place, state_place, state_word};
 use crate::store::Store;
 use byte_lists::MOST_BYTES;
 use queue_model::{
@@ -173,6 +173,104 @@ impl Store {
             && self.is_later(from, self.draft(row, DraftWord::Place))
     }
 
+    /// Whether a linked row is deleted.
+    fn is_gone(&self, row: u64) -> bool
+        requires kept { IsKept self.now }
+        requires row { row < self.now.rows }
+        ensures { IsTrue result ↔ IsGone (table_in self.now) row }
+    {
+        self.word(state_place(row)) == state_word(RowState::Deleted)
+    }
+
+    /// Whether a row comes between two rows, in the list of the first.
+    fn is_between(&self, from: u64, to: u64, row: u64) -> bool
+        requires kept { IsKept self.now }
+        requires from { from < self.now.rows }
+        requires to { to < self.now.rows }
+        requires row { row < self.now.rows }
+        ensures { IsTrue result ↔ IsBetween (table_in self.now) from to row }
+    {
+        let place = self.draft(row, DraftWord::Place);
+        self.draft(row, DraftWord::List) == self.draft(from, DraftWord::List)
+            && self.draft(from, DraftWord::Place) < place
+            && place < self.draft(to, DraftWord::Place)
+    }
+
+    /// Whether a row is deleted, if it is linked and comes between the two.
+    fn is_gone_if_between(&self, from: u64, to: u64, row: u64) -> bool
+        requires kept { IsKept self.now }
+        requires from { from < self.now.rows }
+        requires to { to < self.now.rows }
+        requires row { row < self.now.rows }
+        ensures { IsTrue result ↔ IsGoneBetween (table_in self.now) from to row }
+    {
+        if self.is_linked(row) && self.is_between(from, to, row) {
+            self.is_gone(row)
+        } else {
+            true
+        }
+    }
+
+    /// Whether each linked row between the two is deleted.
+    fn are_gone(&self, from: u64, to: u64) -> bool
+        requires kept { IsKept self.now }
+        requires from { from < self.now.rows }
+        requires to { to < self.now.rows }
+        ensures { IsTrue result ↔ AreGone (table_in self.now) from to }
+    {
+        for row in 0..self.word(TOP) {
+            if !self.is_gone_if_between(from, to, row) {
+                return false;
+            }
+        }
+        true
+    }
+
+    /// Whether the link of a node may move from one row to another.
+    fn fits_unlink(&self, at: Node, from: u64, to: u64) -> bool
+        requires { IsKept self.now }
+        ensures { IsTrue result ↔ FitsUnlink (table_in self.now) at from to }
+    {
+        self.is_node(at)
+            && self.is_linked(from)
+            && self.is_linked(to)
+            && self.is_gone(from)
+            && self.draft(to, DraftWord::List) == self.draft(from, DraftWord::List)
+            && self.draft(from, DraftWord::Place) < self.draft(to, DraftWord::Place)
+            && self.are_gone(from, to)
+    }
+
+    /// Whether a row is linked, in this list at this place.
+    fn is_linked_at(&self, list: u64, place: u64, row: u64) -> bool
+        requires { IsKept self.now }
+        ensures { IsTrue result ↔ IsLinkedAt (table_in self.now) list place row }
+    {
+        self.is_linked(row)
+            && self.draft(row, DraftWord::List) == list
+            && self.draft(row, DraftWord::Place) == place
+    }
+
+    /// Whether a row is linked in this list at this place.
+    fn has_place(&self, list: u64, place: u64) -> bool
+        requires { IsKept self.now }
+        ensures { IsTrue result ↔ ((r : ℕ) × IsLinkedAt (table_in self.now) list place r) }
+    {
+        for row in 0..self.word(TOP) {
+            if self.is_linked_at(list, place, row) {
+                return true;
+            }
+        }
+        false
+    }
+
+    /// Whether the mark of a list may move to a place.
+    fn fits_mark(&self, list: u32, place: u64) -> bool
+        requires { IsKept self.now }
+        ensures { IsTrue result ↔ FitsMark (table_in self.now) list place }
+    {
+        list < self.lists && self.has_place(u64::from(list), place)
+    }
+
     /// Whether the depth has fewer entries than a queue may have.
     fn has_room(&self) -> bool
         requires { IsKept self.now }
@@ -204,6 +302,10 @@ impl Store {
             Step::State { row, change, from } => {
                 self.is_linked(row) && goes_from(caller, change, from) && is_packable(from)
             }
+            Step::Unlink { at, from, to } => self.fits_unlink(at, from, to),
+            Step::Mark { list, place } => self.fits_mark(list, place),
+            Step::Count { list } => list < self.lists,
+            Step::Reset { list } => list < self.lists,
             Step::Reserve { size } => size <= MOST_BYTES && self.has_room(),
             Step::GiveBack { size } => self.reserved(caller).can_give(size),
         }

@@ -3,7 +3,7 @@
 //! Three words of the whole table come first, then the words of each row, and behind the last row the words of
 //! each list.
 ghost use Rattle.std.specs.Prelude.{◌≡◌, ◌<◌, ◌^◌, ℕ};
-ghost use Rattle.link_core.specs.Layout.{draft_of, head_of, link_of, place_of_word, row_link_of, state_of, tail_of, words_of};
+ghost use Rattle.link_core.specs.Layout.{count_of, draft_of, head_of, link_of, mark_of, place_of_word, row_link_of, state_of, tail_of, words_of};
 ghost use Rattle.queue_model.specs.Packing.{pack_node, pack_state};
 ghost use Rattle.link_core.specs.Steps.{place_of_step};
 ghost use Rattle.queue_model.specs.declared.rows.RowState.{RowState};
@@ -98,6 +98,22 @@ pub fn tail_place(rows: u64, list: u32) -> usize
     list_place(rows, list) + TAIL_AT
 }
 
+/// Where the mark of a list stands, behind so many rows.
+pub fn mark_place(rows: u64, list: u32) -> usize
+    requires { mark_of rows list < 2 ^ 63 }
+    ensures { result ≡ mark_of rows list }
+{
+    list_place(rows, list) + MARK_AT
+}
+
+/// Where the count of a list stands, behind so many rows.
+pub fn count_place(rows: u64, list: u32) -> usize
+    requires { count_of rows list < 2 ^ 63 }
+    ensures { result ≡ count_of rows list }
+{
+    list_place(rows, list) + COUNT_AT
+}
+
 /// Where the link of a node stands, in a table of so many rows.
 pub fn link_place(rows: u64, node: Node) -> usize
     requires { link_of rows node < 2 ^ 63 }
@@ -134,8 +150,8 @@ pub fn word_place(rows: u64, name: WordName) -> usize
         WordName::Depth => DEPTH,
         WordName::Link(node) => link_place(rows, node),
         WordName::Tail(list) => tail_place(rows, list),
-        WordName::Mark(list) => list_place(rows, list) + MARK_AT,
-        WordName::Count(list) => list_place(rows, list) + COUNT_AT,
+        WordName::Mark(list) => mark_place(rows, list),
+        WordName::Count(list) => count_place(rows, list),
         WordName::Bell { consumer, list } => {
             list_place(rows, list) + BELLS_AT + consumer as usize
         }
@@ -156,6 +172,10 @@ pub(crate) fn step_place(rows: u64, step: Step) -> usize
         Step::HelpTail { list, .. } => tail_place(rows, list),
         Step::Load { word } => word_place(rows, word),
         Step::State { row, .. } => state_place(row),
+        Step::Unlink { at, .. } => link_place(rows, at),
+        Step::Mark { list, .. } => mark_place(rows, list),
+        Step::Count { list } => count_place(rows, list),
+        Step::Reset { list } => count_place(rows, list),
         Step::Reserve { .. } => DEPTH,
         Step::GiveBack { .. } => DEPTH,
     }

@@ -295,11 +295,44 @@ const STEAL_FROM_TOO_HIGH: Step = Step::State {
     from: RowState::Unlocked(2_305_843_009_213_693_952),
 };
 
+const COUNT_UP: Step = Step::Count { list: 0 };
+
+const COUNT_UP_2: Step = Step::Count { list: 2 };
+
+const COUNT_BACK: Step = Step::Reset { list: 0 };
+
+const COUNT_0: Step = Step::Load {
+    word: WordName::Count(0),
+};
+
+const MARK_0: Step = Step::Load {
+    word: WordName::Mark(0),
+};
+
+const RAISE_TO_0: Step = Step::Mark { list: 0, place: 0 };
+
+const RAISE_TO_1: Step = Step::Mark { list: 0, place: 1 };
+
+const UNLINK_FIRST: Step = Step::Unlink {
+    at: Node::Head(0),
+    from: 0,
+    to: 1,
+};
+
 // A caller, its step, and the word that it shows; None where it does not fit.
 type Shown = (u64, Step, Option<u64>);
 
 // From a fresh table of 2 lists, 2 rows, 1 consumer and 2 callers.
-const FROM_FRESH: [&[Shown]; 20] = [
+const FROM_FRESH: [&[Shown]; 22] = [
+    &[
+        (0, COUNT_UP, Some(0)),
+        (1, COUNT_UP, Some(1)),
+        (0, COUNT_UP_2, None),
+        (0, COUNT_0, Some(2)),
+        (1, COUNT_BACK, Some(2)),
+        (0, COUNT_0, Some(0)),
+    ],
+    &[(0, RAISE_TO_0, None), (0, UNLINK_FIRST, None)],
     &[
         (0, DRAW, Some(0)),
         (1, DRAW, Some(1)),
@@ -425,7 +458,28 @@ const FROM_FRESH: [&[Shown]; 20] = [
 
 // From a table of 1 list, where caller 1 has linked row 0, of 16 bytes, and caller 0 has reserved 20 bytes,
 // and has drawn row 1 and written it down behind the head, with id 6.
-const FROM_LINKED: [&[Shown]; 21] = [
+const FROM_LINKED: [&[Shown]; 23] = [
+    &[
+        (1, ACQ_0, Some(1)),
+        (1, DEQ_FROM_1, Some(12)),
+        (0, SECOND_PLACED_1, Some(0)),
+        (0, LINK_BEHIND, Some(0)),
+        (0, UNLINK_FIRST, None),
+        (0, DEL, Some(2)),
+        (0, UNLINK_FIRST, Some(1)),
+        (0, HEAD_0, Some(2)),
+        (0, UNLINK_FIRST, Some(2)),
+        (0, HEAD_0, Some(2)),
+    ],
+    &[
+        (0, RAISE_TO_0, Some(0)),
+        (0, RAISE_TO_1, None),
+        (0, SECOND_PLACED_1, Some(0)),
+        (0, LINK_BEHIND, Some(0)),
+        (0, RAISE_TO_1, Some(0)),
+        (0, RAISE_TO_0, Some(1)),
+        (0, MARK_0, Some(1)),
+    ],
     &[(1, ACQ_0, Some(1)), (1, STATE_0, Some(12))],
     &[
         (0, ACQ_0, Some(1)),

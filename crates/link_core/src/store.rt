@@ -119,6 +119,10 @@ impl Store {
             Step::HelpTail { from, .. } => found == node_word(from),
             Step::Load { .. } => false,
             Step::State { from, .. } => found == state_word(from),
+            Step::Unlink { from, .. } => found == from + 1,
+            Step::Mark { place, .. } => found < place,
+            Step::Count { .. } => true,
+            Step::Reset { .. } => true,
             Step::Reserve { .. } => true,
             Step::GiveBack { .. } => true,
         }
@@ -148,6 +152,10 @@ impl Store {
             Step::HelpTail { to, .. } => node_word(to),
             Step::Load { .. } => found,
             Step::State { change, .. } => state_word(goes_to(caller, change)),
+            Step::Unlink { to, .. } => to + 1,
+            Step::Mark { place, .. } => place,
+            Step::Count { .. } => found.wrapping_add(1),
+            Step::Reset { .. } => 0,
             Step::Reserve { size } => found + (ENTRY_WORTH + size),
             Step::GiveBack { size } => found - (ENTRY_WORTH + size),
         }

@@ -2,6 +2,8 @@
 use Rattle.std.specs.Prelude.{◌≡◌, ℕ, zero, suc, ◌-◌, Bool, true, false, List, [], ◌∷◌, ◌++◌, length, take, drop, Result, Ok, Err, nat_lt, nat_le, ◌==◌, ◌&&◌, min, if◌then◌else◌}
 use Rattle.std.specs.Int.{Width, w16, w32, w64, byte_len, from_be_bytes, cast_signed}
 use Rattle.std.specs.Str.{is_utf8}
+use Rattle.byte_lists.specs.declared.limits.TheConstants.{MOST_BYTES}
+use Rattle.message_core.specs.declared.limits.TheConstants.{TOP_PRIORITY}
 use Rattle.message_core.specs.declared.faults.DecodeFault.{DecodeFault}
 use Rattle.message_core.specs.declared.faults.DecodeFault.TheVariants.{NotMessage, NoMemory}
 use Rattle.message_core.specs.declared.headers.Header.{Header}
@@ -9,7 +11,7 @@ use Rattle.message_core.specs.declared.headers.HeaderValue.{HeaderValue}
 use Rattle.message_core.specs.declared.headers.HeaderValue.TheVariants as value
 use Rattle.message_core.specs.declared.numbers.ReadFault.{ReadFault}
 use Rattle.message_core.specs.declared.numbers.ReadFault.TheVariants as read
-use Rattle.message_core.specs.Spelling.{Content}
+use Rattle.message_core.specs.Spelling.{Content, parts}
 use Rattle.message_core.specs.Names.{is_among}
 
 -- What a step reads: a value and the bytes after it. Err tells how many bytes are left from the first byte of
@@ -29,7 +31,9 @@ allowed good left x = if good then Ok x else Err left
 
 -- a number of so many bits, big-endian
 abbrev pub number_at : Width → List ℕ → Read ℕ
-number_at w bytes = if nat_lt (length bytes) (byte_len w) then Err (length bytes) else Ok (from_be_bytes w (take (byte_len w) bytes), drop (byte_len w) bytes)
+number_at w bytes =
+    if nat_lt (length bytes) (byte_len w) then Err (length bytes)
+    else Ok (from_be_bytes w (take (byte_len w) bytes), drop (byte_len w) bytes)
 
 -- one byte
 abbrev pub byte_at : List ℕ → Read ℕ
@@ -47,15 +51,17 @@ flag_at (zero ∷ rest) = Ok (false, rest)
 flag_at (suc zero ∷ rest) = Ok (true, rest)
 flag_at (suc (suc b) ∷ rest) = Err (suc (length rest))
 
--- 0 to 9
+-- from 0 up to the greatest priority
 unfoldable pub priority_at : List ℕ → Read ℕ
 priority_at bytes = do
   b ← byte_at bytes
-  allowed (nat_le b.0 9) (length bytes) b
+  allowed (nat_le b.0 TOP_PRIORITY) (length bytes) b
 
 -- so many bytes of UTF-8; a fault is where so many bytes are left
 unfoldable pub utf8_at : ℕ → ℕ → List ℕ → Read (List ℕ)
-utf8_at left n bytes = if nat_lt (length bytes) n then Err left else allowed (is_utf8 (take n bytes)) left (take n bytes, drop n bytes)
+utf8_at left n bytes =
+    if nat_lt (length bytes) n then Err left
+    else allowed (is_utf8 (take n bytes)) left (take n bytes, drop n bytes)
 
 -- a name that is none of those before it; its fault is at its own first byte, behind its length
 unfoldable pub name_at : List (List ℕ) → List ℕ → Read (List ℕ)
@@ -108,15 +114,17 @@ content_at bytes = do
   headers ← headers_at count.0 [] count.1
   len ← number_at w32 headers.1
   body ← bytes_at len.0 len.1
-  Ok (record { id = id.0; persistent = persistent.0; priority = priority.0; headers = headers.0; body = body.0 }, body.1)
+  Ok (parts id.0 persistent.0 priority.0 headers.0 body.0, body.1)
 
 -- the place of a fault where so many of the bytes are left: bytes above the limit are at fault where too many begin
 abbrev pub place_of : ℕ → ℕ → ℕ
-place_of size left = min (size - left) 1048576
+place_of size left = min (size - left) MOST_BYTES
 
 -- the message where nothing is left and there are no more bytes than a message may have, or the place of the first fault
 abbrev pub ended : ℕ → Read Content → Result Content ℕ
-ended size (Ok x) = if length x.1 == 0 && nat_le size 1048576 then Ok x.0 else Err (place_of size (length x.1))
+ended size (Ok x) =
+    if length x.1 == 0 && nat_le size MOST_BYTES then Ok x.0
+    else Err (place_of size (length x.1))
 ended size (Err left) = Err (place_of size left)
 
 -- all of the bytes
@@ -134,6 +142,10 @@ Leaves (read.Left left) r = r ≡ Err left
 abbrev pub Gives : {X Y : Type 0} → (X → Y) → Result X ReadFault → Result Y ℕ → Type 0
 Gives view (Ok x) r = r ≡ Ok (view x)
 Gives view (Err e) r = Leaves e r
+
+-- a function that takes no memory refuses alone: where its field begins, so all of the bytes are left
+abbrev pub IsAtFront : ReadFault → List ℕ → Type 0
+IsAtFront e bytes = e ≡ read.Left (length bytes)
 
 -- decode tells the place of the first fault
 abbrev pub Refuses : DecodeFault → Result Content ℕ → Type 0

@@ -3,6 +3,8 @@ use Rattle.std.specs.Prelude.{ℕ, ◌<◌, ◌≤◌, ◌^◌, Bool, true, fals
 use Rattle.std.specs.List.{flat_map, All, IsDistinct}
 use Rattle.std.specs.Int.{w16, w32, w64, to_be_bytes, cast_unsigned}
 use Rattle.std.specs.Str.{IsUtf8, bytes_eq}
+use Rattle.byte_lists.specs.declared.limits.TheConstants.{MOST_BYTES}
+use Rattle.message_core.specs.declared.limits.TheConstants.{LONGEST_NAME, MOST_HEADERS, TOP_PRIORITY}
 use Rattle.message_core.specs.declared.headers.Header.{Header}
 use Rattle.message_core.specs.declared.headers.HeaderValue.{HeaderValue}
 use Rattle.message_core.specs.declared.headers.HeaderValue.TheVariants as value
@@ -17,7 +19,8 @@ pub record Content : Type 0 where
 
 -- the message of these parts
 abbrev pub parts : ℕ → Bool → ℕ → List Header → List ℕ → Content
-parts id persistent priority headers body = record { id = id; persistent = persistent; priority = priority; headers = headers; body = body }
+parts id persistent priority headers body =
+    record { id = id; persistent = persistent; priority = priority; headers = headers; body = body }
 
 -- ---- the bytes
 
@@ -81,19 +84,19 @@ IsNumber (value.Text t) = Unit {0}
 
 -- a header that a message may have
 pub record IsHeader (h : Header) : Type 0 where
-  pub short : length h.name ≤ 255
+  pub short : length h.name ≤ LONGEST_NAME
   pub readable : IsReadable h
   pub number : IsNumber h.value
 
 -- each limit of a message is kept
 pub record IsMessage (m : Content) : Type 0 where
   pub id : m.id < 2 ^ 64
-  pub priority : m.priority ≤ 9
-  pub few : length m.headers ≤ 65535
+  pub priority : m.priority ≤ TOP_PRIORITY
+  pub few : length m.headers ≤ MOST_HEADERS
   pub headers : All IsHeader m.headers
   -- no two headers have one name
   pub distinct : IsDistinct bytes_eq (names m.headers)
-  pub short : length (content m) ≤ 1048576
+  pub short : length (content m) ≤ MOST_BYTES
 
 -- the value of the first header with this name, or none
 abbrev pub value_of : List ℕ → List Header → Option HeaderValue

@@ -56,8 +56,10 @@ impl Message {
         body: Bytes,
     ) -> Result<Message, MessageFault>
         requires { All IsReadable headers.items }
-        ensures made { IfOk result (λ m. (m ≡ parts id persistent priority headers.items body) × IsMessage m) }
-        ensures refused { IfErr result (λ e. IsRefused e (parts id persistent priority headers.items body)) }
+        ensures made { IfOk result (λ m.
+            (m ≡ parts id persistent priority headers.items body) × IsMessage m) }
+        ensures refused { IfErr result (λ e.
+            IsRefused e (parts id persistent priority headers.items body)) }
     {
         if priority > TOP_PRIORITY {
             return Err(MessageFault::BadPriority);
@@ -83,9 +85,10 @@ impl Message {
 
     /// Reads a message back from its encoding, which has to be all of the bytes. NotMessage comes exactly where
     /// no message is spelled so; `at` is then where the first faulty field begins: one that the bytes end in,
-    /// that has a value which it can't have, that repeats a name, or whose text isn't UTF-8. A name begins behind its length, and a text at its length. A byte after the body, and a byte
-    /// above the limit of 1,048,576, is at fault where too many begin, unless an earlier place is at fault. NoMemory
-    /// may come in place of any.
+    /// that has a value which it can't have, that repeats a name, or whose text isn't UTF-8. A name begins
+    /// behind its length, and a text at its length. A byte after the body, and a byte above the limit of
+    /// 1,048,576, is at fault where too many begin, unless an earlier place is at fault. NoMemory may come in
+    /// place of any.
     pub fn decode(alloc: Global, bytes: &[u8]) -> Result<Message, DecodeFault>
         // What is read is a message, and the bytes are its encoding.
         ensures found { IfOk result (λ m. IsMessage m × (bytes.now ≡ content m)) }
@@ -150,7 +153,7 @@ impl Message {
     /// The priority, from 0 to 9.
     pub fn priority(&self) -> u8
         ensures value { result ≡ self.now.priority }
-        ensures within { result ≤ 9 }
+        ensures within { result ≤ TOP_PRIORITY }
     {
         self.priority
     }

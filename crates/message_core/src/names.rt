@@ -13,8 +13,10 @@ use std::collections::BTreeSet;
 
 /// Adds the name, and says whether it is new.
 pub(crate) fn add_name<'a>(taken: &mut BTreeSet<&'a [u8]>, name: &'a [u8]) -> Result<bool, NoMemory>
-    ensures added { (ns : List (List ℕ)) → Holds taken.old ns → IfOk result (λ new. new ≡ not (is_among name.now ns)) }
-    ensures holds { (ns : List (List ℕ)) → Holds taken.old ns → OnOk result (Holds taken.new (ns ++ name.now ∷ [])) }
+    ensures added { (ns : List (List ℕ)) → Holds taken.old ns
+        → IfOk result (λ new. new ≡ not (is_among name.now ns)) }
+    ensures holds { (ns : List (List ℕ)) → Holds taken.old ns
+        → OnOk result (Holds taken.new (ns ++ name.now ∷ [])) }
 {
     match taken.insert(name) {
         Ok(new) => Ok(new),
@@ -24,7 +26,8 @@ pub(crate) fn add_name<'a>(taken: &mut BTreeSet<&'a [u8]>, name: &'a [u8]) -> Re
 
 /// Whether two headers have one name.
 pub(crate) fn has_double(alloc: Global, headers: &[Header]) -> Result<bool, NoMemory>
-    ensures { IfOk result (λ double. MatchBool double (HasDouble (names headers.now)) (IsDistinct bytes_eq (names headers.now))) }
+    ensures { IfOk result (λ double.
+        MatchBool double (HasDouble (names headers.now)) (IsDistinct bytes_eq (names headers.now))) }
 {
     let mut taken = BTreeSet::new(alloc);
     for header in headers {

@@ -1,6 +1,7 @@
 //! Numbers and bytes, read from the front of a byte list. Numbers are big-endian.
+ghost use Rattle.std.specs.Prelude.{IfErr};
 ghost use Rattle.std.specs.Int.{w16, w32, w64};
-ghost use Rattle.message_core.specs.Reading.{Gives, number_at, byte_at, bytes_at};
+ghost use Rattle.message_core.specs.Reading.{Gives, IsAtFront, number_at, byte_at, bytes_at};
 
 use byte_lists::NoMemory;
 use std::alloc::AllocFailed;
@@ -38,9 +39,11 @@ impl<T: Drop> From<AllocFailed<T>> for ReadFault {
     }
 }
 
-/// The number in the first two bytes, and the bytes after it.
+/// The number in the first two bytes, and the bytes after it. Takes no memory: the one fault is that there are
+/// fewer bytes.
 pub fn u16_of(bytes: &[u8]) -> Result<(u16, &[u8]), ReadFault>
-    ensures { Gives (λ x. (x.0, x.1.now)) result (number_at w16 bytes.now) }
+    ensures given { Gives (λ x. (x.0, x.1.now)) result (number_at w16 bytes.now) }
+    ensures fault { IfErr result (λ e. IsAtFront e bytes.now) }
 {
     if bytes.len() < 2 {
         return Err(ReadFault::Left(bytes.len()));
@@ -49,9 +52,11 @@ pub fn u16_of(bytes: &[u8]) -> Result<(u16, &[u8]), ReadFault>
     Ok((u16::from_be_bytes([front[0], front[1]]), rest))
 }
 
-/// The number in the first four bytes, and the bytes after it.
+/// The number in the first four bytes, and the bytes after it. Takes no memory: the one fault is that there are
+/// fewer bytes.
 pub fn u32_of(bytes: &[u8]) -> Result<(u32, &[u8]), ReadFault>
-    ensures { Gives (λ x. (x.0, x.1.now)) result (number_at w32 bytes.now) }
+    ensures given { Gives (λ x. (x.0, x.1.now)) result (number_at w32 bytes.now) }
+    ensures fault { IfErr result (λ e. IsAtFront e bytes.now) }
 {
     if bytes.len() < 4 {
         return Err(ReadFault::Left(bytes.len()));
@@ -61,9 +66,11 @@ pub fn u32_of(bytes: &[u8]) -> Result<(u32, &[u8]), ReadFault>
     Ok((number, rest))
 }
 
-/// The number in the first eight bytes, and the bytes after it.
+/// The number in the first eight bytes, and the bytes after it. Takes no memory: the one fault is that there are
+/// fewer bytes.
 pub fn u64_of(bytes: &[u8]) -> Result<(u64, &[u8]), ReadFault>
-    ensures { Gives (λ x. (x.0, x.1.now)) result (number_at w64 bytes.now) }
+    ensures given { Gives (λ x. (x.0, x.1.now)) result (number_at w64 bytes.now) }
+    ensures fault { IfErr result (λ e. IsAtFront e bytes.now) }
 {
     if bytes.len() < 8 {
         return Err(ReadFault::Left(bytes.len()));
@@ -75,9 +82,10 @@ pub fn u64_of(bytes: &[u8]) -> Result<(u64, &[u8]), ReadFault>
     Ok((number, rest))
 }
 
-/// The first byte, and the bytes after it.
+/// The first byte, and the bytes after it. Takes no memory: the one fault is that there is none.
 pub fn byte_of(bytes: &[u8]) -> Result<(u8, &[u8]), ReadFault>
-    ensures { Gives (λ x. (x.0, x.1.now)) result (byte_at bytes.now) }
+    ensures given { Gives (λ x. (x.0, x.1.now)) result (byte_at bytes.now) }
+    ensures fault { IfErr result (λ e. IsAtFront e bytes.now) }
 {
     match bytes {
         [] => Err(ReadFault::Left(0)),
@@ -85,9 +93,11 @@ pub fn byte_of(bytes: &[u8]) -> Result<(u8, &[u8]), ReadFault>
     }
 }
 
-/// The first so many bytes, and the bytes after them.
+/// The first so many bytes, and the bytes after them. Takes no memory: the one fault is that there are
+/// fewer bytes.
 pub fn bytes_of(count: usize, bytes: &[u8]) -> Result<(&[u8], &[u8]), ReadFault>
-    ensures { Gives (λ x. (x.0.now, x.1.now)) result (bytes_at count bytes.now) }
+    ensures given { Gives (λ x. (x.0.now, x.1.now)) result (bytes_at count bytes.now) }
+    ensures fault { IfErr result (λ e. IsAtFront e bytes.now) }
 {
     if bytes.len() < count {
         return Err(ReadFault::Left(bytes.len()));

@@ -83,8 +83,10 @@ fn name_of<'a>(
     taken: &mut BTreeSet<&'a [u8]>,
     bytes: &'a [u8],
 ) -> Result<(&'a [u8], &'a [u8]), ReadFault>
-    ensures given { (ns : List (List ℕ)) → Holds taken.old ns → Gives (λ x. (x.0.now, x.1.now)) result (name_at ns bytes.now) }
-    ensures holds { (ns : List (List ℕ)) → Holds taken.old ns → IfOk result (λ x. Holds taken.new (ns ++ x.0.now ∷ [])) }
+    ensures given { (ns : List (List ℕ)) → Holds taken.old ns
+        → Gives (λ x. (x.0.now, x.1.now)) result (name_at ns bytes.now) }
+    ensures holds { (ns : List (List ℕ)) → Holds taken.old ns
+        → IfOk result (λ x. Holds taken.new (ns ++ x.0.now ∷ [])) }
 {
     let (len, rest) = byte_of(bytes)?;
     let (name, after) = utf8_of(rest.len(), len as usize, rest)?;
@@ -132,8 +134,10 @@ fn header_of<'a>(
     taken: &mut BTreeSet<&'a [u8]>,
     bytes: &'a [u8],
 ) -> Result<(Header, &'a [u8]), ReadFault>
-    ensures given { (ns : List (List ℕ)) → Holds taken.old ns → Gives (λ x. (x.0, x.1.now)) result (header_at ns bytes.now) }
-    ensures holds { (ns : List (List ℕ)) → Holds taken.old ns → IfOk result (λ x. Holds taken.new (ns ++ x.0.name ∷ [])) }
+    ensures given { (ns : List (List ℕ)) → Holds taken.old ns
+        → Gives (λ x. (x.0, x.1.now)) result (header_at ns bytes.now) }
+    ensures holds { (ns : List (List ℕ)) → Holds taken.old ns
+        → IfOk result (λ x. Holds taken.new (ns ++ x.0.name ∷ [])) }
 {
     let (name, rest) = name_of(taken, bytes)?;
     let (value, rest) = value_of(alloc, rest)?;
@@ -192,7 +196,8 @@ fn place(size: usize, left: usize) -> DecodeFault
 /// The fields of a message, read from all of the bytes.
 #[tactic(auto, unfolding(crate::specs::Reading::message_of))]
 pub(crate) fn all_fields_of(alloc: Global, bytes: &[u8]) -> Result<Fields, DecodeFault>
-    ensures { MatchResult result (λ fields. message_of bytes.now ≡ Ok (view fields)) (λ e. Refuses e (message_of bytes.now)) }
+    ensures { MatchResult result (λ fields. message_of bytes.now ≡ Ok (view fields))
+        (λ e. Refuses e (message_of bytes.now)) }
 {
     let size = bytes.len();
     match fields_of(alloc, bytes) {

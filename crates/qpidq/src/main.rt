@@ -2,18 +2,23 @@
 //! status.
 #![tactic(auto)]
 
+ghost use Rattle.std.specs.Prelude.{◌≡◌, IfOk, vec_len};
+
 use broker_top::{Status, run_command};
-use outside_io::{StdSink, StdSource};
+use outside_io::{FreeGate, StdSink, StdSource};
+use std::alloc::{AllocError, Global};
 use std::env::Env;
-use std::io::ErrorKind;
+use std::io::{BufWriter, ErrorKind, Write};
 use std::process::ExitCode;
 use std::{env, io};
+use target_core::{CONSUMERS, PlainTarget, Target};
 
 /// What is printed on standard error where the words are refused.
 const USAGE: &str = "usage: qpidq run
        qpidq select TEXT
-  run     Reads a script from standard input, runs it, and writes each line's
-          answer and what the queue holds to standard output.
+  run     Reads a script from standard input, runs its actors beside each other,
+          and writes each line's answer and what the queues hold to standard
+          output.
   select  Reads messages from standard input, one a line, and writes for each
           what the selector TEXT is of it: true, false or unknown. TEXT is not
           empty and does not begin with '-'; ' -1 < a' does not.
@@ -34,13 +39,42 @@ fn words_of(rt: &(impl Env + AllocGlobal)) -> io::Result<Vec<String>> {
     }
 }
 
+/// A target for each consumer, which takes all that it is handed.
+fn plain_targets(alloc: Global) -> Result<Vec<Box<dyn Target>>, AllocError>
+    ensures { IfOk result (λ targets. vec_len targets ≡ 64) }
+{
+    let mut targets: Vec<Box<dyn Target>> = Vec::new(alloc);
+    'consumers: for _consumer in 0..CONSUMERS {
+        targets.push(Box::new(alloc, PlainTarget::make(alloc, None))?)?;
+    }
+    Ok(targets)
+}
+
+/// The status that a run ends with whose output is flushed now: where that fails, the sink failed.
+fn flushed(status: Status, writer: &mut impl Write) -> Status {
+    match writer.flush() {
+        Ok(()) => status,
+        Err(_) => Status::WriteFault,
+    }
+}
+
 fn main(rt: HostRuntime) -> ExitCode {
     let Ok(words) = words_of(&rt) else {
         return ExitCode::from(Status::NoMemory.code());
     };
+    let Ok(targets) = plain_targets(rt.alloc()) else {
+        return ExitCode::from(Status::NoMemory.code());
+    };
+    let Ok(mut writer) = BufWriter::new(rt.alloc(), io::writer(&rt)) else {
+        return ExitCode::from(Status::NoMemory.code());
+    };
     let mut input = StdSource::new(rt.reader());
-    let mut out = StdSink::new(io::writer(&rt));
-    let status = run_command(rt.alloc(), &words, &mut input, &mut out);
+    let mut out = StdSink::new(&mut writer);
+    let alloc = rt.alloc();
+    let (status, _targets) = run_command(
+        &rt, alloc, &words, &mut input, &mut out, &FreeGate, targets,
+    );
+    let status = flushed(status, &mut writer);
     if status == Status::WordsRefused {
         let _ = rt.eprintln(USAGE);
     }

@@ -102,6 +102,26 @@ pub enum Step {
         change: Change,
         from: RowState,
     },
+    /// Moves the link of a node from a deleted row on to a later row of its list, where it still names the
+    /// deleted one. Each row between the two is deleted.
+    Unlink {
+        at: Node,
+        from: u64,
+        to: u64,
+    },
+    /// Raises the mark of a list to the place of a row, where that is greater.
+    Mark {
+        list: u32,
+        place: u64,
+    },
+    /// Adds one to the count of a list. Behind the greatest number it begins again at 0.
+    Count {
+        list: u32,
+    },
+    /// Sets the count of a list back to 0.
+    Reset {
+        list: u32,
+    },
     /// Adds an entry of this size to the depth.
     Reserve {
         size: u64,

@@ -5,6 +5,8 @@ use Rattle.serde_json.specs.Data.{Data, null, boolean, number, string, array, ob
 use Rattle.serde_json.specs.Find.{as_i64}
 use Rattle.fields_read.specs.Fields.{text_at, number_at, truth_at, members_at}
 use Rattle.fields_read.specs.declared.fields.Field.TheVariants.{Id, Persistent, Priority, Headers, Body}
+use Rattle.byte_lists.specs.declared.limits.TheConstants.{MOST_BYTES}
+use Rattle.message_core.specs.declared.limits.TheConstants.{LONGEST_NAME, MOST_HEADERS}
 use Rattle.message_core.specs.Spelling.{Content, content, parts}
 use Rattle.message_core.specs.declared.headers.Header.{Header}
 use Rattle.message_core.specs.declared.headers.HeaderValue.{HeaderValue}
@@ -26,8 +28,12 @@ headers_of (member name d ms) = record { name = name; value = header_value d } �
 
 -- Not persistent, priority 4, no headers and no body where the object doesn't say otherwise. An id always stands.
 abbrev pub message_of : Data → Content
-message_of d = parts (unwrap_or (number_at Id d) 0) (unwrap_or (truth_at Persistent d) false) (unwrap_or (number_at Priority d) 4) (headers_of (members_at Headers d)) (unwrap_or (text_at Body d) [])
+message_of d =
+    parts (unwrap_or (number_at Id d) 0) (unwrap_or (truth_at Persistent d) false) (unwrap_or (number_at Priority d) 4)
+    (headers_of (members_at Headers d)) (unwrap_or (text_at Body d) [])
 
 -- a header's name, the number of headers or the whole encoding passes its limit
 abbrev pub is_too_long : Content → Bool
-is_too_long m = list_any (λ h. nat_lt 255 (length h.name)) m.headers || (nat_lt 65535 (length m.headers) || nat_lt 1048576 (length (content m)))
+is_too_long m =
+    list_any (λ h. nat_lt LONGEST_NAME (length h.name)) m.headers
+    || (nat_lt MOST_HEADERS (length m.headers) || nat_lt MOST_BYTES (length (content m)))

@@ -60,7 +60,8 @@ pub(crate) fn queue_named(value: &Value, defs: &Defs) -> Option<u32>
 
 /// The number of the consumer of this name and actor among these.
 fn consumer_among(consumers: &[ConsumerDef], name: &[u8], actor: &[u8]) -> Option<u32>
-    ensures { result ≡ option_map (λ c. c.number) (find (λ c. bytes_eq c.name name.now && bytes_eq c.actor actor.now) consumers.now) }
+    ensures { result ≡ option_map (λ c. c.number)
+        (find (λ c. bytes_eq c.name name.now && bytes_eq c.actor actor.now) consumers.now) }
 {
     for consumer in consumers {
         if consumer.name.as_slice() == name && consumer.actor.as_slice() == actor {
@@ -110,7 +111,8 @@ fn check_fields(
     required: &[Field],
     valued: &[Field],
 ) -> Result<(), LineFault>
-    ensures { result ≡ passes_unless (fields_fault known.now required.now valued.now (view value.now)) }
+    ensures { result
+        ≡ passes_unless (fields_fault known.now required.now valued.now (view value.now)) }
 {
     check_presence(value, known, required)?;
     check_values(value, valued)?;

@@ -45,7 +45,8 @@ fn header_value(value: Value) -> HeaderValue
 
 /// The members as headers, in the byte order of their names.
 fn headers_of(alloc: Global, members: Map<String, Value>) -> Result<Vec<Header>, NoMemory>
-    ensures value { IfOk result (λ headers. headers.items ≡ headers_of (members_view members.entries)) }
+    ensures value { IfOk result
+        (λ headers. headers.items ≡ headers_of (members_view members.entries)) }
     ensures readable { IfOk result (λ headers. All IsReadable headers.items) }
     ensures distinct { IfOk result (λ headers. IsDistinct bytes_eq (names headers.items)) }
 {
@@ -65,15 +66,19 @@ fn headers_of(alloc: Global, members: Map<String, Value>) -> Result<Vec<Header>,
 
 /// Takes the value of the field out of the members.
 fn taken(members: &mut Map<String, Value>, field: Field) -> Option<Value>
-    ensures value { option_map (λ v. view v) result ≡ get_member (name_of field) (members_view members.old.entries) }
-    ensures others { (name : List ℕ) → bytes_eq (name_of field) name ≡ false → get_member name (members_view members.new.entries) ≡ get_member name (members_view members.old.entries) }
+    ensures value { option_map (λ v. view v) result
+        ≡ get_member (name_of field) (members_view members.old.entries) }
+    ensures others { (name : List ℕ) → bytes_eq (name_of field) name ≡ false
+        → get_member name (members_view members.new.entries)
+        ≡ get_member name (members_view members.old.entries) }
 {
     members.remove(field.name())
 }
 
 /// The members of the object; none where it is something else.
 fn members_of(alloc: Global, value: Option<Value>) -> Map<String, Value>
-    ensures { members_view result.entries ≡ unwrap_or (option_and_then as_object (option_map (λ v. view v) value)) no_members }
+    ensures { members_view result.entries
+        ≡ unwrap_or (option_and_then as_object (option_map (λ v. view v) value)) no_members }
 {
     match value {
         Some(Value::Object(members)) => members,

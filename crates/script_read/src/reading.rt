@@ -24,7 +24,8 @@ use std::alloc::Global;
 
 /// The value that the line is as JSON: LineTooLong, and then NotJson.
 fn read_value(alloc: Global, line: &[u8]) -> Result<Value, LineFault>
-    ensures { MatchResult result (λ value. value_said line.now ≡ Ok (view value)) (λ fault. Gives (Err fault) (value_said line.now)) }
+    ensures { MatchResult result (λ value. value_said line.now ≡ Ok (view value))
+        (λ fault. Gives (Err fault) (value_said line.now)) }
 {
     if line.len() > LONGEST_LINE {
         return Err(LineFault::LineTooLong);
@@ -56,7 +57,8 @@ fn consumer_number(value: &Value, defs: &Defs) -> u32
 fn what_by(alloc: Global, verb: Verb, value: Value, defs: &Defs) -> Result<Option<What>, LineFault>
     requires few { length (queues_in defs.now) ≤ most_queues }
     requires checked { values_fault (fields_of verb) (view value) ≡ None }
-    ensures { Gives result (unless (late_fault (view value) verb) (what_by (queues_in defs.now) (view value) verb)) }
+    ensures { Gives result (unless (late_fault (view value) verb)
+        (what_by (queues_in defs.now) (view value) verb)) }
 {
     let queue = queue_number(&value, defs);
     let consumer = consumer_number(&value, defs);
@@ -93,7 +95,8 @@ fn line_by(
 ) -> Result<Line, LineFault>
     requires few { length (queues_in defs.now) ≤ most_queues }
     requires checked { values_fault (fields_of verb) (view value) ≡ None }
-    ensures { Gives result (unless (late_fault (view value) verb) (line_by (queues_in defs.now) line (view value) verb)) }
+    ensures { Gives result (unless (late_fault (view value) verb)
+        (line_by (queues_in defs.now) line (view value) verb)) }
 {
     let actor = match Bytes::of(alloc, text_bytes(&value, Field::Actor)) {
         Ok(actor) => actor,
@@ -109,7 +112,8 @@ fn line_by(
 /// The line of this number that the value says, or its first cause.
 fn line_of(alloc: Global, value: Value, number: u64, defs: &Defs) -> Result<Line, LineFault>
     requires few { length (queues_in defs.now) ≤ most_queues }
-    ensures { Gives result (unless (line_fault (queues_in defs.now) (view value)) (line_in (queues_in defs.now) number (view value))) }
+    ensures { Gives result (unless (line_fault (queues_in defs.now) (view value))
+        (line_in (queues_in defs.now) number (view value))) }
 {
     let verb = verb_of(&value)?;
     check_line(&value, verb, defs)?;

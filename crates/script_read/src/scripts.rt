@@ -48,7 +48,9 @@ fn read_next(
     so_far: &mut SoFar,
 ) -> Result<(), LineFault>
     requires few { length (queues_in defs.now) ≤ most_queues }
-    ensures { (ls : List Line) → Tracks so_far.old ls → AddsLine result (line_after (queues_in defs.now) journal ls number text.now) so_far.new ls }
+    ensures { (ls : List Line) → Tracks so_far.old ls
+        → AddsLine result (line_after (queues_in defs.now) journal ls number text.now)
+        so_far.new ls }
 {
     let line = read_line(alloc, text, number, defs)?;
     if let Some(cause) = so_far.fault_of(journal, &line) {
@@ -75,7 +77,8 @@ pub fn read_script(
     requires few { length (queues_in defs.now) ≤ most_queues }
     requires numbers { from + length bytes.now < 2 ^ 64 }
     ensures script { GivesScript result (script_of (queues_in defs.now) journal from bytes.now) }
-    ensures allowed { AreAllowed (queues_in defs.now) → IfOk result (λ script. AreAllowedPhases (queues_in defs.now) journal (phases_in script)) }
+    ensures allowed { AreAllowed (queues_in defs.now)
+        → IfOk result (λ script. AreAllowedPhases (queues_in defs.now) journal (phases_in script)) }
 {
     let mut so_far = SoFar::new(alloc);
     let mut rest = bytes;

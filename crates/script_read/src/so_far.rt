@@ -57,7 +57,8 @@ impl SoFar {
 
     /// The first cause that a put has beside the lines before it.
     fn put_fault(&self, journal: bool, what: &What) -> Option<LineFault>
-        ensures { (ls : List Line) → Tracks self.now ls → result ≡ first_of (put_causes journal ls what.now) }
+        ensures { (ls : List Line) → Tracks self.now ls
+            → result ≡ first_of (put_causes journal ls what.now) }
     {
         let What::Put { queue, message } = what else {
             return None;
@@ -73,7 +74,8 @@ impl SoFar {
 
     /// Adds a line behind the others.
     pub(crate) fn add(&mut self, alloc: Global, line: Line) -> Result<(), NoMemory>
-        ensures { (ls : List Line) → Tracks self.old ls → OnOk result (Tracks self.new (ls ++ line ∷ [])) }
+        ensures { (ls : List Line) → Tracks self.old ls
+            → OnOk result (Tracks self.new (ls ++ line ∷ [])) }
     {
         match line {
             Line::Rest => self.end_phase(alloc),
@@ -83,7 +85,8 @@ impl SoFar {
 
     /// Ends the open phase.
     fn end_phase(&mut self, alloc: Global) -> Result<(), NoMemory>
-        ensures { (ls : List Line) → Tracks self.old ls → OnOk result (Tracks self.new (ls ++ Rest ∷ [])) }
+        ensures { (ls : List Line) → Tracks self.old ls
+            → OnOk result (Tracks self.new (ls ++ Rest ∷ [])) }
     {
         let ended = mem::replace(&mut self.phase, OpenPhase::new(alloc));
         let ended = ended.close(alloc)?;
@@ -95,7 +98,8 @@ impl SoFar {
 
     /// Notes what the line puts, and files the line under its actor.
     fn add_op(&mut self, alloc: Global, op: Op) -> Result<(), NoMemory>
-        ensures { (ls : List Line) → Tracks self.old ls → OnOk result (Tracks self.new (ls ++ Doing op ∷ [])) }
+        ensures { (ls : List Line) → Tracks self.old ls
+            → OnOk result (Tracks self.new (ls ++ Doing op ∷ [])) }
     {
         if let What::Put { queue, message } = &op.what {
             if self.puts.insert((*queue, message.id())).is_err() {
@@ -107,7 +111,8 @@ impl SoFar {
 
     /// The script, once its last line is read.
     pub(crate) fn finish(self, alloc: Global) -> Result<Script, NoMemory>
-        ensures { (ls : List Line) → Tracks self ls → IfOk result (λ script. phases_in script ≡ phases_of ls) }
+        ensures { (ls : List Line) → Tracks self ls
+            → IfOk result (λ script. phases_in script ≡ phases_of ls) }
     {
         let SoFar {
             mut ended,

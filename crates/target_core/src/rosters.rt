@@ -63,6 +63,19 @@ impl Roster {
         })
     }
 
+    /// Another roster for the targets of this one, in which none stands yet. Refuses only for want of memory.
+    pub fn beside(&self, alloc: Global) -> Result<Roster, NoMemory>
+        ensures { IfOk result (λ r. IsBare (map (option_map seat) r.slots)) }
+    {
+        let Ok(spare) = Vec::with_capacity(alloc, CONSUMERS) else {
+            return Err(NoMemory);
+        };
+        Ok(Roster {
+            slots: no_targets(),
+            spare,
+        })
+    }
+
     /// Moves the target of a consumer to another roster, which has none for it. Takes no memory.
     pub fn move_to(&mut self, consumer: u32, other: &mut Roster)
         requires number { consumer < 64 }

@@ -86,6 +86,8 @@ fn ample(rt: HostRuntime) -> Result<(), Fail> {
     assert!(rt; roster.close(6));
     assert!(rt; !roster.close(6));
     other.prepare(6, 1)?;
+    let beside = roster.beside(rt.alloc())?;
+    assert_eq!(rt; beside.room(5), None);
     assert_eq!(rt; roster.finish().len(), 63);
     Ok(())
 }

@@ -13,3 +13,6 @@ pub mod Seated
 pub mod OnQueue
 pub mod OneJob
 pub mod Onward
+pub mod Served
+pub mod Preparing
+pub mod Counting

@@ -4,3 +4,4 @@ pub mod Lines
 pub mod Jobs
 pub mod Ready
 pub mod Phases
+pub mod Made

@@ -28,7 +28,9 @@ pub record LosesIt (build : Build) (q r : ℕ) (cargo : Option Load) (state : Ro
 
 -- a line that changes the hands alone
 abbrev pub DidHands : Build → ℕ → Sight → List Hand → What → report.Answer → Sight → List Hand → Type 0
-DidHands build q old hands w a new hands' = (defs : List Defined) (s : Standing) → s.hands ≡ hands → DidOn defs build q old s w a new (record s { hands = hands' })
+DidHands build q old hands w a new hands' =
+    (defs : List Defined) (s : Standing) → s.hands ≡ hands
+    → DidOn defs build q old s w a new (record s { hands = hands' })
 
 -- an entry is unlocked where it is locked, and all others stay
 pub record LeavesIt (build : Build) (q : ℕ) (old : Sight) (k : Hand) (new : Sight) : Type 0 where

@@ -22,7 +22,8 @@ lines_of jobs = map (λ j. j.op) (reverse jobs)
 
 -- An actor may run its lines: they are served by its passes, which may reserve and draw as much as the lines put; what
 -- is beside them is what the definitions say; its targets have room for its takes; and there is room in its lists.
-pub record MayRun (defs : List Defined) (sights : List Sight) (seats : Seats) (jobs : List Job) (room_held room_log : ℕ) : Type 0 where
+pub record MayRun (defs : List Defined) (sights : List Sight) (seats : Seats) (jobs : List Job)
+    (room_held room_log : ℕ) : Type 0 where
   pub served : AllByRecursion (ServesJob sights) jobs
   pub fits : AllByRecursion (λ j. JobFits defs j.op.what j.aid) jobs
   pub rights : MayPutAll sights jobs
@@ -33,7 +34,8 @@ pub record MayRun (defs : List Defined) (sights : List Sight) (seats : Seats) (j
 -- An actor has run its lines: the log has their numbers in order, and answers that fit them; and the calls that the
 -- lines made, and then the unlocks of what it had locked after the last one, are its calls in the histories of the
 -- queues, in this order, and it made no others.
-pub record HasRun (defs : List Defined) (builds : List Build) (olds : List Sight) (seats : Seats) (ops : List Op) (log : List (ℕ × Answer)) (news : List Sight) (seats' : Seats) : Type 0 where
+pub record HasRun (defs : List Defined) (builds : List Build) (olds : List Sight) (seats : Seats)
+    (ops : List Op) (log : List (ℕ × Answer)) (news : List Sight) (seats' : Seats) : Type 0 where
   pub numbers : map (λ e. e.0) log ≡ map (λ op. op.line) ops
   pub dids : List Did
   pub end : Standing

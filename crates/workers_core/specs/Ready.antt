@@ -20,7 +20,8 @@ use Rattle.workers_core.specs.declared.jobs.Job.{Job}
 
 -- each pass is one of the queue in its place
 abbrev pub AllServe : {Q P : Type 0} → (Q → P → Type 0) → List Q → List P → Type 0
-AllServe {Q} {P} serves queues passes = (i : ℕ) (q : Q) (p : P) → slice_get queues i ≡ Some q → slice_get passes i ≡ Some p → serves q p
+AllServe {Q} {P} serves queues passes =
+    (i : ℕ) (q : Q) (p : P) → slice_get queues i ≡ Some q → slice_get passes i ≡ Some p → serves q p
 
 -- the hands, on all passes of an actor
 pub record Holds (sights : List Sight) (hands : List Hand) : Type 0 where
@@ -69,6 +70,9 @@ pub record Spends (what : What) (olds news : List Sight) : Type 0 where
   pub as_many : length news ≡ length olds
   pub opening : (q : ℕ) (s t : Sight) → slice_get olds q ≡ Some s → slice_get news q ≡ Some t → t.opening ≡ s.opening
   pub caller : (q : ℕ) (s t : Sight) → slice_get olds q ≡ Some s → slice_get news q ≡ Some t → t.caller ≡ s.caller
-  pub consumers : (q : ℕ) (s t : Sight) → slice_get olds q ≡ Some s → slice_get news q ≡ Some t → t.consumers ≡ s.consumers
-  pub allowance : (q : ℕ) (s t : Sight) → slice_get olds q ≡ Some s → slice_get news q ≡ Some t → s.allowance ≤ t.allowance + (if puts_to q what then 1 else 0)
-  pub share : (q : ℕ) (s t : Sight) → slice_get olds q ≡ Some s → slice_get news q ≡ Some t → s.share ≤ t.share + (if puts_to q what then 1 else 0)
+  pub consumers : (q : ℕ) (s t : Sight) → slice_get olds q ≡ Some s → slice_get news q ≡ Some t
+      → t.consumers ≡ s.consumers
+  pub allowance : (q : ℕ) (s t : Sight) → slice_get olds q ≡ Some s → slice_get news q ≡ Some t
+      → s.allowance ≤ t.allowance + (if puts_to q what then 1 else 0)
+  pub share : (q : ℕ) (s t : Sight) → slice_get olds q ≡ Some s → slice_get news q ≡ Some t
+      → s.share ≤ t.share + (if puts_to q what then 1 else 0)

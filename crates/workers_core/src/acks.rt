@@ -28,8 +28,10 @@ pub(crate) fn lock_first<Q: SharedQueue<Parcel>>(
     requires serves { Q.serves queue.now pass.old }
     requires mine { Mine (Q.sight pass.old) (hand number row id (option_map load_of cargo)) }
     ensures serves { Q.serves queue.now pass.new }
-    ensures ok { IfOk result (λ c. LocksIt (Q.build queue.now) number row id (option_map load_of cargo) (load_of c) (Q.sight pass.old) (Q.sight pass.new)) }
-    ensures err { IfErr result (λ s. LosesIt (Q.build queue.now) number row (option_map load_of cargo) s (Q.sight pass.old) (Q.sight pass.new)) }
+    ensures ok { IfOk result (λ c. LocksIt (Q.build queue.now) number row id (option_map load_of cargo)
+        (load_of c) (Q.sight pass.old) (Q.sight pass.new)) }
+    ensures err { IfErr result (λ s. LosesIt (Q.build queue.now) number row (option_map load_of cargo) s
+        (Q.sight pass.old) (Q.sight pass.new)) }
 {
     match cargo {
         Some(cargo) => Ok(cargo),
@@ -53,7 +55,8 @@ pub(crate) fn ack_line<Q: SharedQueue<Parcel>>(
     ensures serves { Q.serves queue.now pass.new }
     ensures hold { Hold (Q.sight pass.new) number (hands_of held.new.items) }
     ensures others { KeepsOthers number (hands_of held.old.items) (hands_of held.new.items) }
-    ensures did { DidHands (Q.build queue.now) number (Q.sight pass.old) (hands_of held.old.items) (Ack number id) result (Q.sight pass.new) (hands_of held.new.items) }
+    ensures did { DidHands (Q.build queue.now) number (Q.sight pass.old) (hands_of held.old.items)
+        (Ack number id) result (Q.sight pass.new) (hands_of held.new.items) }
     ensures room { (vec_len held.new ≤ vec_len held.old) × (vec_capacity held.new ≡ vec_capacity held.old) }
 {
     let Some(kept) = take_meant(held, number, id) else {
@@ -85,7 +88,8 @@ pub(crate) fn release_line<Q: SharedQueue<Parcel>>(
     ensures serves { Q.serves queue.now pass.new }
     ensures hold { Hold (Q.sight pass.new) number (hands_of held.new.items) }
     ensures others { KeepsOthers number (hands_of held.old.items) (hands_of held.new.items) }
-    ensures did { DidHands (Q.build queue.now) number (Q.sight pass.old) (hands_of held.old.items) (Release number id) result (Q.sight pass.new) (hands_of held.new.items) }
+    ensures did { DidHands (Q.build queue.now) number (Q.sight pass.old) (hands_of held.old.items)
+        (Release number id) result (Q.sight pass.new) (hands_of held.new.items) }
     ensures room { (vec_len held.new ≤ vec_len held.old) × (vec_capacity held.new ≡ vec_capacity held.old) }
 {
     let Some(kept) = take_meant(held, number, id) else {

@@ -12,6 +12,7 @@ use crate::jobs::Job;
 use crate::leaving::leave_all;
 use crate::lines::run_jobs;
 use acts_core::{Bytes, SharedQueue};
+use byte_lists::Buffer;
 use defs_read::Defs;
 use outside_io::Gate;
 use report_core::{Answer, Dropped};
@@ -20,8 +21,8 @@ use std::mem;
 use target_core::Roster;
 use txn_core::Parcel;
 
-/// An actor of a phase: its lines, of which the last is kept first, a pass of each queue in the order of the definitions,
-/// the targets of its consumers, and room for what its lines need.
+/// An actor of a phase: its lines, of which the last is kept first, a pass of each queue in the order of the
+/// definitions, the targets of its consumers, and room for what its lines need.
 pub struct Actor<Q: SharedQueue<Parcel>> {
     pub name: Bytes,
     pub number: u64,
@@ -31,6 +32,7 @@ pub struct Actor<Q: SharedQueue<Parcel>> {
     pub roster: Roster,
     pub log: Vec<(u64, Answer)>,
     pub drops: Vec<Dropped>,
+    pub body: Buffer,
     pub alloc: Global,
 }
 
@@ -60,6 +62,7 @@ impl<Q: SharedQueue<Parcel>> Actor<Q> {
             roster,
             log,
             drops,
+            body: _body,
             alloc: _alloc,
         } = self;
         ActorEnd {
@@ -81,10 +84,16 @@ pub(crate) fn run_actor<Q: SharedQueue<Parcel>, G: Gate>(
     requires as_many { length queues.now ≡ vec_len actor.old.passes }
     requires serve { AllServe Q.serves queues.now actor.old.passes.items }
     requires kind { AllByRecursion (λ q. (Q.build q).kind ≡ Listed) queues.now }
-    requires may { MayRun (queues_in defs.now) (map Q.sight actor.old.passes.items) (map (option_map (λ b. seat (b.vtable, b.value))) actor.old.roster.slots) actor.old.jobs.items (vec_capacity actor.old.held) (vec_capacity actor.old.log) }
+    requires may { MayRun (queues_in defs.now) (map Q.sight actor.old.passes.items)
+        (map (option_map (λ b. seat (b.vtable, b.value))) actor.old.roster.slots) actor.old.jobs.items
+        (vec_capacity actor.old.held) (vec_capacity actor.old.log) }
     requires fresh { (actor.old.held.items ≡ []) × (actor.old.log.items ≡ []) }
+    ensures named { actor.new.name ≡ actor.old.name }
     ensures serve { AllServe Q.serves queues.now actor.new.passes.items }
-    ensures ran { HasRun (queues_in defs.now) (map Q.build queues.now) (map Q.sight actor.old.passes.items) (map (option_map (λ b. seat (b.vtable, b.value))) actor.old.roster.slots) (lines_of actor.old.jobs.items) actor.new.log.items (map Q.sight actor.new.passes.items) (map (option_map (λ b. seat (b.vtable, b.value))) actor.new.roster.slots) }
+    ensures ran { HasRun (queues_in defs.now) (map Q.build queues.now) (map Q.sight actor.old.passes.items)
+        (map (option_map (λ b. seat (b.vtable, b.value))) actor.old.roster.slots)
+        (lines_of actor.old.jobs.items) actor.new.log.items (map Q.sight actor.new.passes.items)
+        (map (option_map (λ b. seat (b.vtable, b.value))) actor.new.roster.slots) }
 {
     let jobs = mem::replace(&mut actor.jobs, Vec::new(actor.alloc));
     run_jobs(

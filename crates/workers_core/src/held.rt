@@ -69,8 +69,10 @@ pub(crate) fn meant_at(held: &[Kept], queue: u32, id: Option<u64>) -> Option<usi
 /// Takes the entry that a line means out of the list.
 pub(crate) fn take_meant(held: &mut Vec<Kept>, queue: u32, id: Option<u64>) -> Option<Kept>
     requires apart { Apart same_hand (hands_of held.old.items) }
-    ensures some { IfSome result (λ x. TakesMeant queue id (hands_of held.old.items) (hands_of held.new.items) (hand queue x.row x.id (option_map load_of x.cargo))) }
-    ensures none { IfNone result ((meant queue id (hands_of held.old.items) ≡ None) × (held.new.items ≡ held.old.items)) }
+    ensures some { IfSome result (λ x. TakesMeant queue id (hands_of held.old.items) (hands_of held.new.items)
+        (hand queue x.row x.id (option_map load_of x.cargo))) }
+    ensures none { IfNone result
+        ((meant queue id (hands_of held.old.items) ≡ None) × (held.new.items ≡ held.old.items)) }
     ensures room { (vec_len held.new ≤ vec_len held.old) × (vec_capacity held.new ≡ vec_capacity held.old) }
 {
     let Some(i) = meant_at(held, queue, id) else {

@@ -56,11 +56,19 @@ pub(crate) fn on_queue<Q: SharedQueue<Parcel>>(
     ensures serves { Q.serves queue.now pass.new }
     ensures hold { Hold (Q.sight pass.new) number (hands_of held.new.items) }
     ensures others { KeepsOthers number (hands_of held.old.items) (hands_of held.new.items) }
-    ensures did { (defs : List Defined) → JobFits defs what aid → DidOn defs (Q.build queue.now) number (Q.sight pass.old)
-        (record { hands = hands_of held.old.items; seats = map (option_map (λ b. seat (b.vtable, b.value))) roster.old.slots })
+    ensures did { (defs : List Defined) → JobFits defs what aid
+        → DidOn defs (Q.build queue.now) number (Q.sight pass.old)
+        (record {
+          hands = hands_of held.old.items;
+          seats = map (option_map (λ b. seat (b.vtable, b.value))) roster.old.slots;
+        })
         what result (Q.sight pass.new)
-        (record { hands = hands_of held.new.items; seats = map (option_map (λ b. seat (b.vtable, b.value))) roster.new.slots }) }
-    ensures room { (vec_len held.new ≤ vec_len held.old + gains what) × (vec_capacity held.new ≡ vec_capacity held.old) }
+        (record {
+          hands = hands_of held.new.items;
+          seats = map (option_map (λ b. seat (b.vtable, b.value))) roster.new.slots;
+        }) }
+    ensures room { (vec_len held.new ≤ vec_len held.old + gains what)
+        × (vec_capacity held.new ≡ vec_capacity held.old) }
 {
     match what {
         What::Put { queue: _, message } => match aid {

@@ -18,8 +18,10 @@ fn leave_one<Q: SharedQueue<Parcel>>(queues: &[Q], passes: &mut Vec<Q::Pass>, ke
     requires holds { Holds (map Q.sight passes.old.items) (hand_of kept ∷ []) }
     ensures as_many { vec_len passes.new ≡ vec_len passes.old }
     ensures serve { AllServe Q.serves queues.now passes.new.items }
-    ensures holds { (ks : List Hand) → Holds (map Q.sight passes.old.items) (hand_of kept ∷ ks) → Holds (map Q.sight passes.new.items) ks }
-    ensures ran { Ran (map Q.build queues.now) (map Q.sight passes.old.items) (unlock_of (hand_of kept) (hand_of kept).cargo) (map Q.sight passes.new.items) }
+    ensures holds { (ks : List Hand) → Holds (map Q.sight passes.old.items) (hand_of kept ∷ ks)
+        → Holds (map Q.sight passes.new.items) ks }
+    ensures ran { Ran (map Q.build queues.now) (map Q.sight passes.old.items)
+        (unlock_of (hand_of kept) (hand_of kept).cargo) (map Q.sight passes.new.items) }
 {
     let Kept {
         queue: number,
@@ -45,7 +47,8 @@ pub(crate) fn leave_all<Q: SharedQueue<Parcel>>(
     requires serve { AllServe Q.serves queues.now passes.old.items }
     requires holds { Holds (map Q.sight passes.old.items) (hands_of held.old.items) }
     ensures serve { AllServe Q.serves queues.now passes.new.items }
-    ensures ran { Ran (map Q.build queues.now) (map Q.sight passes.old.items) (unlocks (hands_of held.old.items)) (map Q.sight passes.new.items) }
+    ensures ran { Ran (map Q.build queues.now) (map Q.sight passes.old.items)
+        (unlocks (hands_of held.old.items)) (map Q.sight passes.new.items) }
     ensures empty { held.new.items ≡ [] }
 {
     held.reverse();

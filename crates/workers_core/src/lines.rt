@@ -57,12 +57,21 @@ pub(crate) fn do_job<Q: SharedQueue<Parcel>>(
     requires room { vec_len held.old + gains job.op.what ≤ vec_capacity held.old }
     ensures serve { AllServe Q.serves queues.now passes.new.items }
     ensures holds { Holds (map Q.sight passes.new.items) (hands_of held.new.items) }
-    ensures spends { (defs : List Defined) → JobFits defs job.op.what job.aid → Spends job.op.what (map Q.sight passes.old.items) (map Q.sight passes.new.items) }
-    ensures did { (defs : List Defined) → JobFits defs job.op.what job.aid → DidLines defs (map Q.build queues.now) (map Q.sight passes.old.items)
-        (record { hands = hands_of held.old.items; seats = map (option_map (λ b. seat (b.vtable, b.value))) roster.old.slots })
+    ensures spends { (defs : List Defined) → JobFits defs job.op.what job.aid
+        → Spends job.op.what (map Q.sight passes.old.items) (map Q.sight passes.new.items) }
+    ensures did { (defs : List Defined) → JobFits defs job.op.what job.aid
+        → DidLines defs (map Q.build queues.now) (map Q.sight passes.old.items)
+        (record {
+          hands = hands_of held.old.items;
+          seats = map (option_map (λ b. seat (b.vtable, b.value))) roster.old.slots;
+        })
         (job.op ∷ []) (result ∷ []) (map Q.sight passes.new.items)
-        (record { hands = hands_of held.new.items; seats = map (option_map (λ b. seat (b.vtable, b.value))) roster.new.slots }) }
-    ensures room { (vec_len held.new ≤ vec_len held.old + gains job.op.what) × (vec_capacity held.new ≡ vec_capacity held.old) }
+        (record {
+          hands = hands_of held.new.items;
+          seats = map (option_map (λ b. seat (b.vtable, b.value))) roster.new.slots;
+        }) }
+    ensures room { (vec_len held.new ≤ vec_len held.old + gains job.op.what)
+        × (vec_capacity held.new ≡ vec_capacity held.old) }
 {
     let number = queue_of(&job);
     let Job { op, aid } = job;
@@ -113,9 +122,15 @@ pub(crate) fn run_jobs<Q: SharedQueue<Parcel>, G: Gate>(
     ensures holds { Holds (map Q.sight passes.new.items) (hands_of held.new.items) }
     ensures numbers { map (λ e. e.0) log.new.items ≡ map (λ j. j.op.line) (reverse jobs.items) }
     ensures did { DidLines (queues_in _defs.now) (map Q.build queues.now) (map Q.sight passes.old.items)
-        (record { hands = hands_of held.old.items; seats = map (option_map (λ b. seat (b.vtable, b.value))) roster.old.slots })
+        (record {
+          hands = hands_of held.old.items;
+          seats = map (option_map (λ b. seat (b.vtable, b.value))) roster.old.slots;
+        })
         (map (λ j. j.op) (reverse jobs.items)) (map (λ e. e.1) log.new.items) (map Q.sight passes.new.items)
-        (record { hands = hands_of held.new.items; seats = map (option_map (λ b. seat (b.vtable, b.value))) roster.new.slots }) }
+        (record {
+          hands = hands_of held.new.items;
+          seats = map (option_map (λ b. seat (b.vtable, b.value))) roster.new.slots;
+        }) }
 {
     let mut jobs = jobs;
     'lines: while let Some(job) = jobs.pop() {

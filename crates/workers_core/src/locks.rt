@@ -17,7 +17,10 @@ use txn_core::Parcel;
 /// The entry at this place is locked again, and this is its cargo.
 fn lock_at(held: &mut Vec<Kept>, at: usize, cargo: Parcel)
     requires there { at < vec_len held.old }
-    ensures locked { (k : Hand) → Apart same_hand (hands_of held.old.items) → slice_get (hands_of held.old.items) at ≡ Some k → hands_of held.new.items ≡ replaced (record k { cargo = Some (load_of cargo) }) (hands_of held.old.items) }
+    ensures locked { (k : Hand) → Apart same_hand (hands_of held.old.items)
+        → slice_get (hands_of held.old.items) at ≡ Some k
+        → hands_of held.new.items
+        ≡ replaced (record k { cargo = Some (load_of cargo) }) (hands_of held.old.items) }
     ensures room { (vec_len held.new ≡ vec_len held.old) × (vec_capacity held.new ≡ vec_capacity held.old) }
 {
     held[at].cargo = Some(cargo);
@@ -27,7 +30,9 @@ fn lock_at(held: &mut Vec<Kept>, at: usize, cargo: Parcel)
 fn leave_at(held: &mut Vec<Kept>, at: usize) -> Option<Parcel>
     requires there { at < vec_len held.old }
     ensures cargo { (k : Hand) → slice_get (hands_of held.old.items) at ≡ Some k → option_map load_of result ≡ k.cargo }
-    ensures left { (k : Hand) → Apart same_hand (hands_of held.old.items) → slice_get (hands_of held.old.items) at ≡ Some k → hands_of held.new.items ≡ replaced (record k { cargo = None }) (hands_of held.old.items) }
+    ensures left { (k : Hand) → Apart same_hand (hands_of held.old.items)
+        → slice_get (hands_of held.old.items) at ≡ Some k
+        → hands_of held.new.items ≡ replaced (record k { cargo = None }) (hands_of held.old.items) }
     ensures room { (vec_len held.new ≡ vec_len held.old) × (vec_capacity held.new ≡ vec_capacity held.old) }
 {
     held[at].cargo.take()
@@ -46,7 +51,8 @@ pub(crate) fn lock_line<Q: SharedQueue<Parcel>>(
     ensures serves { Q.serves queue.now pass.new }
     ensures hold { Hold (Q.sight pass.new) number (hands_of held.new.items) }
     ensures others { KeepsOthers number (hands_of held.old.items) (hands_of held.new.items) }
-    ensures did { DidHands (Q.build queue.now) number (Q.sight pass.old) (hands_of held.old.items) (Lock number id) result (Q.sight pass.new) (hands_of held.new.items) }
+    ensures did { DidHands (Q.build queue.now) number (Q.sight pass.old) (hands_of held.old.items)
+        (Lock number id) result (Q.sight pass.new) (hands_of held.new.items) }
     ensures room { (vec_len held.new ≤ vec_len held.old) × (vec_capacity held.new ≡ vec_capacity held.old) }
 {
     let Some(at) = meant_at(held, number, id) else {
@@ -83,7 +89,8 @@ pub(crate) fn unlock_line<Q: SharedQueue<Parcel>>(
     ensures serves { Q.serves queue.now pass.new }
     ensures hold { Hold (Q.sight pass.new) number (hands_of held.new.items) }
     ensures others { KeepsOthers number (hands_of held.old.items) (hands_of held.new.items) }
-    ensures did { DidHands (Q.build queue.now) number (Q.sight pass.old) (hands_of held.old.items) (Unlock number id) result (Q.sight pass.new) (hands_of held.new.items) }
+    ensures did { DidHands (Q.build queue.now) number (Q.sight pass.old) (hands_of held.old.items)
+        (Unlock number id) result (Q.sight pass.new) (hands_of held.new.items) }
     ensures room { (vec_len held.new ≤ vec_len held.old) × (vec_capacity held.new ≡ vec_capacity held.old) }
 {
     let Some(at) = meant_at(held, number, id) else {

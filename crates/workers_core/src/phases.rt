@@ -26,11 +26,20 @@ pub fn run_phase<R: Threads + Wait + Clone + Send + Sync + Drop, Q: SharedQueue<
 )
     requires kind { AllByRecursion (λ q. (Q.build q).kind ≡ Listed) queues.now }
     requires may { All (λ a. (length queues.now ≡ vec_len a.passes) × AllServe Q.serves queues.now a.passes.items
-        × MayRun (queues_in defs.now) (map Q.sight a.passes.items) (map (option_map (λ b. seat (b.vtable, b.value))) a.roster.slots) a.jobs.items (vec_capacity a.held) (vec_capacity a.log)
+        × MayRun (queues_in defs.now) (map Q.sight a.passes.items)
+        (map (option_map (λ b. seat (b.vtable, b.value))) a.roster.slots) a.jobs.items (vec_capacity a.held)
+        (vec_capacity a.log)
         × (a.held.items ≡ []) × (a.log.items ≡ [])) actors.old }
+    ensures named { (i : ℕ) (d : _) → i < length actors.old
+        → (slice_index_or actors.new i d).name ≡ (slice_index_or actors.old i d).name }
     ensures ran { (i : ℕ) (d : _) → i < length actors.old
         → AllServe Q.serves queues.now (slice_index_or actors.new i d).passes.items
-        × HasRun (queues_in defs.now) (map Q.build queues.now) (map Q.sight (slice_index_or actors.old i d).passes.items) (map (option_map (λ b. seat (b.vtable, b.value))) (slice_index_or actors.old i d).roster.slots) (lines_of (slice_index_or actors.old i d).jobs.items) (slice_index_or actors.new i d).log.items (map Q.sight (slice_index_or actors.new i d).passes.items) (map (option_map (λ b. seat (b.vtable, b.value))) (slice_index_or actors.new i d).roster.slots) }
+        × HasRun (queues_in defs.now) (map Q.build queues.now)
+        (map Q.sight (slice_index_or actors.old i d).passes.items)
+        (map (option_map (λ b. seat (b.vtable, b.value))) (slice_index_or actors.old i d).roster.slots)
+        (lines_of (slice_index_or actors.old i d).jobs.items) (slice_index_or actors.new i d).log.items
+        (map Q.sight (slice_index_or actors.new i d).passes.items)
+        (map (option_map (λ b. seat (b.vtable, b.value))) (slice_index_or actors.new i d).roster.slots) }
 {
     let threads = actors.len();
     if threads == 0 {
@@ -38,10 +47,19 @@ pub fn run_phase<R: Threads + Wait + Clone + Send + Sync + Drop, Q: SharedQueue<
     }
     let work = |_: usize, actor: &mut Actor<Q>|
         requires { (length queues.now ≡ vec_len actor.now.passes) × AllServe Q.serves queues.now actor.now.passes.items
-            × MayRun (queues_in defs.now) (map Q.sight actor.now.passes.items) (map (option_map (λ b. seat (b.vtable, b.value))) actor.now.roster.slots) actor.now.jobs.items (vec_capacity actor.now.held) (vec_capacity actor.now.log)
-            × (actor.now.held.items ≡ []) × (actor.now.log.items ≡ []) × AllByRecursion (λ q. (Q.build q).kind ≡ Listed) queues.now }
-        ensures { AllServe Q.serves queues.entry.now actor.exit.now.passes.items
-            × HasRun (queues_in defs.entry.now) (map Q.build queues.entry.now) (map Q.sight actor.entry.now.passes.items) (map (option_map (λ b. seat (b.vtable, b.value))) actor.entry.now.roster.slots) (lines_of actor.entry.now.jobs.items) actor.exit.now.log.items (map Q.sight actor.exit.now.passes.items) (map (option_map (λ b. seat (b.vtable, b.value))) actor.exit.now.roster.slots) }
+            × MayRun (queues_in defs.now) (map Q.sight actor.now.passes.items)
+            (map (option_map (λ b. seat (b.vtable, b.value))) actor.now.roster.slots) actor.now.jobs.items
+            (vec_capacity actor.now.held) (vec_capacity actor.now.log)
+            × (actor.now.held.items ≡ []) × (actor.now.log.items ≡ [])
+            × AllByRecursion (λ q. (Q.build q).kind ≡ Listed) queues.now }
+        ensures { (actor.exit.now.name ≡ actor.entry.now.name)
+            × AllServe Q.serves queues.entry.now actor.exit.now.passes.items
+            × HasRun (queues_in defs.entry.now) (map Q.build queues.entry.now)
+            (map Q.sight actor.entry.now.passes.items)
+            (map (option_map (λ b. seat (b.vtable, b.value))) actor.entry.now.roster.slots)
+            (lines_of actor.entry.now.jobs.items) actor.exit.now.log.items
+            (map Q.sight actor.exit.now.passes.items)
+            (map (option_map (λ b. seat (b.vtable, b.value))) actor.exit.now.roster.slots) }
     { run_actor(defs, queues, actor, gate) };
     thread::for_each_mut(rt, actors, threads, &work);
 }

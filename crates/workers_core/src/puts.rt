@@ -32,7 +32,8 @@ pub(crate) fn put_line<Q: SharedQueue<Parcel>>(
     requires share { 0 < (Q.sight pass.old).share }
     ensures serves { Q.serves queue.now pass.new }
     ensures keeps { (r : ℕ) → Keeps (Q.sight pass.old) (Q.sight pass.new) r }
-    ensures did { (defs : List Defined) (s : Standing) (def : Defined) (m : Content) → slice_get defs number ≡ Some def → IsSlip def m slip → load_of cargo ≡ fresh m
+    ensures did { (defs : List Defined) (s : Standing) (def : Defined) (m : Content)
+        → slice_get defs number ≡ Some def → IsSlip def m slip → load_of cargo ≡ fresh m
         → DidOn defs (Q.build queue.now) number (Q.sight pass.old) s (Put number m) result (Q.sight pass.new) s }
 {
     let id = slip.id;

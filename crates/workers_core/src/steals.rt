@@ -24,7 +24,8 @@ pub(crate) fn steal_line<Q: SharedQueue<Parcel>>(
     ensures serves { Q.serves queue.now pass.new }
     ensures hold { Hold (Q.sight pass.new) number (hands_of held.new.items) }
     ensures others { KeepsOthers number (hands_of held.old.items) (hands_of held.new.items) }
-    ensures did { DidHands (Q.build queue.now) number (Q.sight pass.old) (hands_of held.old.items) (Steal number id) result (Q.sight pass.new) (hands_of held.new.items) }
+    ensures did { DidHands (Q.build queue.now) number (Q.sight pass.old) (hands_of held.old.items)
+        (Steal number id) result (Q.sight pass.new) (hands_of held.new.items) }
     ensures room { (vec_len held.new ≤ vec_len held.old + 1) × (vec_capacity held.new ≡ vec_capacity held.old) }
 {
     match queue.find(pass, id) {

@@ -21,10 +21,15 @@ use txn_core::Parcel;
 /// Hands an entry of a queue to its consumer's target, which has room.
 fn hand_over(roster: &mut Roster, queue: u32, consumer: u32, cargo: &Parcel)
     requires number { consumer < 64 }
-    requires room { (s : Seat) × (seat_at (map (option_map (λ b. seat (b.vtable, b.value))) roster.old.slots) consumer ≡ Some s) × (0 < s.room) }
-    ensures handed { (s : Seat) → seat_at (map (option_map (λ b. seat (b.vtable, b.value))) roster.old.slots) consumer ≡ Some s
+    requires room { (s : Seat)
+        × (seat_at (map (option_map (λ b. seat (b.vtable, b.value))) roster.old.slots) consumer ≡ Some s)
+        × (0 < s.room) }
+    ensures handed { (s : Seat)
+        → seat_at (map (option_map (λ b. seat (b.vtable, b.value))) roster.old.slots) consumer ≡ Some s
         → (d : Delivery) × IsDelivery consumer queue (load_of cargo.now).count (load_of cargo.now) d
-        × (map (option_map (λ b. seat (b.vtable, b.value))) roster.new.slots ≡ slice_set (map (option_map (λ b. seat (b.vtable, b.value))) roster.old.slots) consumer (Some (served s d))) }
+        × (map (option_map (λ b. seat (b.vtable, b.value))) roster.new.slots
+        ≡ slice_set (map (option_map (λ b. seat (b.vtable, b.value))) roster.old.slots)
+        consumer (Some (served s d))) }
 {
     let message = cargo.message();
     let body = message.body();
@@ -61,10 +66,17 @@ pub(crate) fn take_line<Q: SharedQueue<Parcel>>(
     ensures serves { Q.serves queue.now pass.new }
     ensures hold { Hold (Q.sight pass.new) number (hands_of held.new.items) }
     ensures others { KeepsOthers number (hands_of held.old.items) (hands_of held.new.items) }
-    ensures did { (defs : List Defined) → place_of defs consumer ≡ Some (number, place) → DidOn defs (Q.build queue.now) number (Q.sight pass.old)
-        (record { hands = hands_of held.old.items; seats = map (option_map (λ b. seat (b.vtable, b.value))) roster.old.slots })
+    ensures did { (defs : List Defined) → place_of defs consumer ≡ Some (number, place)
+        → DidOn defs (Q.build queue.now) number (Q.sight pass.old)
+        (record {
+          hands = hands_of held.old.items;
+          seats = map (option_map (λ b. seat (b.vtable, b.value))) roster.old.slots;
+        })
         (Take consumer) result (Q.sight pass.new)
-        (record { hands = hands_of held.new.items; seats = map (option_map (λ b. seat (b.vtable, b.value))) roster.new.slots }) }
+        (record {
+          hands = hands_of held.new.items;
+          seats = map (option_map (λ b. seat (b.vtable, b.value))) roster.new.slots;
+        }) }
     ensures room { (vec_len held.new ≤ vec_len held.old + 1) × (vec_capacity held.new ≡ vec_capacity held.old) }
 {
     match roster.room(consumer) {

@@ -14,4 +14,4 @@ returns-clause-serves g c =
 pub returns-clause-split : goal.returns-clause-split
 returns-clause-split g c =
     let k = c.split.ensures in
-    is_split c.args.boss.now c.split.new.boss c.split.result c.args.consumers.now c.args.allowance (k.boss ∙ sym c.requires.may.boss) k.caller k.split
+    is_split c.args.boss.now c.split.new.boss c.split.result c.args.consumers.now c.args.allowance c.requires.may.boss (k.boss ∙ sym c.requires.may.boss) k.caller k.split

@@ -7,8 +7,8 @@ use Rattle.queue_model.specs.State.{place_at}
 use Rattle.link_core.specs.Layout.{row_link_of, state_of, head_of}
 use Rattle.entry_table.specs.Resting.{Walking, Rested}
 use Rattle.std.proofs.Common.{Vec, Global}
-use Rattle.entry_table.specs.Rule.{Carries}
 use Rattle.acts_core.specs.declared.cargoes.RestEntry.{RestEntry}
+use Rattle.acts_core.specs.Moments.{IsLoadOf}
 use Rattle.entry_table.proofs.Closing.{read, walk_begins, walk_ends, faces, live_word, gone_word, same_parcel, walking_is}
 use Rattle.entry_table.proofs.rest.gather.Goals as goal
 use Rattle.entry_table.proofs.rest.gather.Goals.{then-word-ne3, else-word-ne3}
@@ -81,9 +81,8 @@ rows-preserved g c = elim c.if-word-ne3.branch [
         let is = w.resting.ensures q f.x (record {
           list = f.list;
           drafted = subst (λ (z : ℕ). IsDrafted (slots_items c.args.closed.now.words) z (place_at q z) f.x.slip) (sym row) (legible.drafted f.x.number f.x f.found);
-          key = legible.keys f.x.number f.x f.found;
           state_is = w.state_of.ensures f.x.state (sym word ∙ f.word);
-          carries = subst (λ (d : g.row.C.Denot). Carries (g.C.Freight.goods d) f.x) same tk.0.2;
+          carries = subst (λ (d : g.row.C.Denot). IsLoadOf f.x (g.C.Freight.goods d)) same tk.0.2;
         }) in
         walking_is g.C.Freight.goods (slots_items c.args.closed.now.words) q c.args.list (c.rows.left - 1) _ _ _ c.if-word-ne3.rest.items _ c.if-word-ne3.parcels.items found
         (sym w.push_reserved.ensures.items ∙ ap (λ (v : Vec (RestEntry g.row.C.Denot) Global). v.items) (sym w.rest-is))

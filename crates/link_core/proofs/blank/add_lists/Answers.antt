@@ -1,4 +1,4 @@
-use Rattle.std.proofs.Common.{◌≡◌, List, [], ◌∷◌, ◌++◌, ◌∙◌, ap, append_assoc, replicate, ℕ}
+use Rattle.std.proofs.Common.{List, [], ◌∷◌, ◌++◌, ◌∙◌, ap, append_assoc, replicate, ℕ}
 use Rattle.link_core.specs.Fresh.{empty_lists}
 use Rattle.queue_model.specs.Packing.{no_bell}
 use Rattle.link_core.proofs.Making.{empty_more}

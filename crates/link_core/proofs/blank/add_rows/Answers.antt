@@ -1,4 +1,4 @@
-use Rattle.std.proofs.Common.{◌≡◌, List, [], ◌∷◌, ◌++◌, ◌∙◌, ap, append_assoc, ℕ}
+use Rattle.std.proofs.Common.{List, [], ◌∷◌, ◌++◌, ◌∙◌, ap, append_assoc, ℕ}
 use Rattle.link_core.specs.Fresh.{blank_rows}
 use Rattle.link_core.proofs.Making.{blank_more}
 use Rattle.link_core.proofs.blank.add_rows.Goals as goal

@@ -8,7 +8,10 @@ for_each_mut-requires-clause-accepts g c κs within = λ i p less at.
 
 pub returns : goal.returns
 returns g c = record {
+  named = λ i d less.
+      let ch = (c.for_each_mut.ensures i d less).1 in
+      rw (← ch.left) (rw (← ch.argument_is) ch.call.0);
   ran = λ i d less.
       let ch = (c.for_each_mut.ensures i d less).1 in
-      rw (← ch.left) (rw (← ch.argument_is) ch.call);
+      rw (← ch.left) (rw (← ch.argument_is) (ch.call.1, ch.call.2));
 }

@@ -8,6 +8,7 @@ use Rattle.entry_table.specs.Rule.{Ruled}
 use Rattle.entry_table.specs.Views.{view_in, rest_of}
 use Rattle.entry_table.specs.Resting.{Legible}
 use Rattle.entry_table.specs.Passes.{view, state}
+use Rattle.entry_table.proofs.Remaining.{no_keys}
 use Rattle.entry_table.proofs.Leaving.{leaves, callers_made, rests_fit, none_long, starts, finishes}
 use Rattle.entry_table.proofs.entries.Entries.gathered.Goals as goal
 
@@ -50,6 +51,24 @@ returns-clause-rest g c =
     let lists : c.args.self.shape.lists ≡ q.lists = sym (c.args.boss.within.lists ∙ ap (λ (s : Shape). s.lists) c.requires.table.shape) in
     let rested = starts goods q c.args.self.shape.lists c.args.self.rest.items ps (none_long c.args.self.rest.items (let a = c.args.self.rest.ok in let b = c.args.self.room.2 in omega (arith, a, b))) lists x.1 in
     finishes goods q c.gather_all.new.rest.items c.gather_all.new.parcels.items (c.gather_all.ensures.rested q readable lists rested)
+
+pub returns-clause-keys : goal.returns-clause-keys
+returns-clause-keys g c =
+    let goods = g.C.Freight.goods in
+    let key = c.args.self.table.shared.key in
+    let v : View = view c.args.boss in
+    let q : Queue = state c.args.boss in
+    let ws = slots_items c.close_with-closed.result.words in
+    let xs = slots_items c.close_with-closed.result.slots in
+    let ps = c.emptied.new.parcels.items in
+    let fin = subst (λ (z : View). Final (Seen (Ruled goods key) c.into_seat.result.id z) ws xs) (ap view_in (sym c.into_seat.ensures.2)) c.close_with-closed.ensures.values.2 in
+    let is : v.callers ≡ 0 ∷ rest_of v.callers = c.args.boss.speaks ∙ ap (λ (k : ℕ). k ∷ rest_of v.callers) c.requires.boss in
+    let x = leaves goods key c.into_seat.result.id v (rest_of v.callers) ws xs ps is c.requires.every c.requires.settled fin c.emptied.ensures.values in
+    let readable = subst (λ (z : List ℕ × ℕ). Legible z.0 z.1 q) (λ i. (ap slots_items (sym c.emptied.ensures.words) i, ap (λ (s : Shape). s.rows) c.args.self.keyed i)) x.0 in
+    let lists : c.args.self.shape.lists ≡ q.lists = sym (c.args.boss.within.lists ∙ ap (λ (s : Shape). s.lists) c.requires.table.shape) in
+    let rested = starts goods q c.args.self.shape.lists c.args.self.rest.items ps (none_long c.args.self.rest.items (let a = c.args.self.rest.ok in let b = c.args.self.room.2 in omega (arith, a, b))) lists x.1 in
+    no_keys goods q (slots_items c.emptied.new.closed.words) q.lists c.gather_all.new.rest.items readable.apart readable.drafted
+    (finishes goods q c.gather_all.new.rest.items c.gather_all.new.parcels.items (c.gather_all.ensures.rested q readable lists rested))
 
 pub returns-clause-callers : goal.returns-clause-callers
 returns-clause-callers g c =

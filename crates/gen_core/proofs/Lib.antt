@@ -1,0 +1,4 @@
+mod Rows
+mod Totals
+mod Allowed
+mod Adding

@@ -1,0 +1,9 @@
+pub mod Numbered
+pub mod Standing
+pub mod Serving
+pub mod Keeping
+pub mod Finding
+pub mod Resting
+pub mod Starting
+pub mod Settling
+pub mod Waking

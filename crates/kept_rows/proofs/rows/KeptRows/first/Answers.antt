@@ -1,0 +1,36 @@
+use Rattle.std.proofs.Common.{rules, ◌≡◌, ◌≢◌, ◌<◌, ◌≤◌, ◌+◌, ◌-◌, ℕ, Bool, true, false, Option, Some, None, List, [], ◌∷◌, ◌++◌, length, get_or, set, sym, ap, ◌∙◌, subst, refl, arith}
+use Rattle.queue_model.specs.declared.rows.RowState.TheVariants.{Available, Locked, Unlocked, Dequeued, Deleted}
+use Rattle.queue_model.specs.declared.queues.Depth.{Depth}
+use Rattle.queue_model.specs.declared.rows.RowState.{RowState}
+use Rattle.queue_model.specs.declared.rows.Slip.{Slip}
+use Rattle.std.specs.Option.{option_map}
+use Rattle.row_order.specs.declared.slots.Slot.{Slot}
+use Rattle.row_order.specs.Order.{ranks}
+use Rattle.row_order.specs.Tree.{Crowned, LeafSet}
+use Rattle.acts_core.specs.Kept.{Kept, KeptRow, Goods}
+use Rattle.kept_rows.specs.Rows.{kept_at, with_row, row_in, goods_in, Fitting, CameOut}
+use Rattle.kept_rows.specs.Keeping.{kept_of, Keeps, Carries, Names}
+use Rattle.std.proofs.Common.{IfSome, IfNone}
+use Rattle.kept_rows.specs.Rows.{Comes, FirstOf, NoneOf, IsFreeTo, IsAvailable, IsNamed}
+use Rattle.kept_rows.proofs.Keeping.{if_some, if_none, first_free, none_free}
+use Rattle.row_order.specs.Order.{IsWanted}
+use Rattle.row_order.specs.Tree.{FirstBelow}
+use Rattle.kept_rows.proofs.rows.KeptRows.first.Goals as goal
+
+pub returns : goal.returns
+returns g c =
+    let old = c.self.inside in
+    let b = g.O.Ranking.by_key in
+    let f : FirstBelow (ranks g.O.Ranking.by_key old.slots.items) old.width old.nodes.items 1 (IsWanted old.slots.items c.args.consumer) c.first_wanted.result =
+    subst (λ (z : List (Slot g.row.C.Denot) × List ℕ). FirstBelow (ranks g.O.Ranking.by_key z.0) old.width z.1 1 (IsWanted z.0 c.args.consumer) c.first_wanted.result) (λ i. (c.deref.ensures.value i, c.deref-2.ensures.value i)) c.first_wanted.ensures in
+    let room = c.self.invariant.1.leaves in
+    let ok = old.slots.ok.0 in
+    let wide : length old.slots.items ≤ old.width = omega arith in
+    record {
+      some = if_some c.row_of.result (λ r. c.first_wanted.result ≡ r + 1) (FirstOf c.args.self.now (IsFreeTo c.args.consumer) (Comes g.O.Ranking.by_key c.args.self.now))
+          (λ r e. subst (λ (k : Kept). FirstOf k (IsFreeTo c.args.consumer) (Comes g.O.Ranking.by_key k) r) c.self.view_is (first_free g.C.Freight.goods g.O.Ranking.by_key old.slots.items old.nodes.items old.width c.self.invariant.0 old.depth old.spare c.args.consumer c.first_wanted.result r wide f e))
+          c.row_of.ensures.some;
+      none = if_none c.row_of.result (c.first_wanted.result ≡ 0) (NoneOf c.args.self.now (IsFreeTo c.args.consumer))
+          (λ e. subst (λ (k : Kept). NoneOf k (IsFreeTo c.args.consumer)) c.self.view_is (none_free g.C.Freight.goods g.O.Ranking.by_key old.slots.items old.nodes.items old.width c.self.invariant.0 old.depth old.spare c.args.consumer c.first_wanted.result wide f e))
+          c.row_of.ensures.none;
+    }

@@ -1,0 +1,6 @@
+mod Lasts
+mod Coming
+mod Displacing
+mod Over
+mod Releasing
+mod Fronts

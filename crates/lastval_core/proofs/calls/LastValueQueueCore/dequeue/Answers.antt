@@ -1,0 +1,8 @@
+use Rattle.lastval_core.proofs.Lasts.{lasts_settle, room_settle}
+use Rattle.lastval_core.proofs.calls.LastValueQueueCore.dequeue.Goals as goal
+
+pub invariant_of-self : goal.invariant_of-self
+invariant_of-self g c = (
+  lasts_settle c.self.inside.rows c.dequeue.new.self c.self.inside.lasts.items c.self.inside.outdated.items c.dequeue.ensures.settles c.self.invariant.0,
+  room_settle c.self.inside.rows c.dequeue.new.self _ _ c.dequeue.ensures.settles c.self.invariant.1,
+)

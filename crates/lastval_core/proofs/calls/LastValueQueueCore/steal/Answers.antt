@@ -1,0 +1,8 @@
+use Rattle.lastval_core.proofs.Lasts.{lasts_settle, room_settle}
+use Rattle.lastval_core.proofs.calls.LastValueQueueCore.steal.Goals as goal
+
+pub invariant_of-self : goal.invariant_of-self
+invariant_of-self g c = (
+  lasts_settle c.self.inside.rows c.steal.new.self c.self.inside.lasts.items c.self.inside.outdated.items c.steal.ensures.settles c.self.invariant.0,
+  room_settle c.self.inside.rows c.steal.new.self _ _ c.steal.ensures.settles c.self.invariant.1,
+)

@@ -1,0 +1,3 @@
+pub mod Passes
+pub mod Targets
+pub mod Cast

@@ -1,0 +1,11 @@
+pub mod Places
+pub mod Passes
+pub mod Targets
+pub mod Seating
+pub mod Histories
+pub mod Tales
+pub mod Entries
+pub mod Queues
+pub mod Sums
+pub mod Opening
+pub mod Accounts

@@ -1,0 +1,6 @@
+mod Entries
+mod Leaving
+mod Leaves
+mod Places
+mod Starting
+mod Tried
