@@ -3,6 +3,7 @@ use Rattle.std.specs.Prelude.{◌≡◌, ℕ, ◌^◌, ◌<◌, ◌≤◌, List,
 use Rattle.std.specs.List.{IsDistinct}
 use Rattle.std.specs.Str.{bytes_eq}
 use Rattle.fields_read.specs.Forms.{is_name}
+use Rattle.fields_read.specs.declared.limits.TheConstants.{LONGEST_KEY, MOST_PRIORITIES, MOST_QUEUES}
 use Rattle.defs_read.specs.Causes.{most_consumers}
 use Rattle.defs_read.specs.Defined.{Defined, consumers_in}
 use Rattle.defs_read.specs.declared.defs.ConsumerDef.{ConsumerDef}
@@ -11,12 +12,12 @@ use Rattle.defs_read.specs.declared.defs.QueueKind.TheVariants.{Standard, Priori
 
 -- the greatest number of queues
 abbrev pub most_queues : ℕ
-most_queues = 16
+most_queues = MOST_QUEUES
 
 -- a priority queue has 1 to 10 priorities
 abbrev pub HasPriorities : QueueKind → Type 0
 HasPriorities Standard = Unit {0}
-HasPriorities (Priority n) = (1 ≤ n) × (n ≤ 10)
+HasPriorities (Priority n) = (1 ≤ n) × (n ≤ MOST_PRIORITIES)
 HasPriorities (Sorted key) = Unit {0}
 HasPriorities (LastValue key) = Unit {0}
 
@@ -24,8 +25,8 @@ HasPriorities (LastValue key) = Unit {0}
 abbrev pub HasKey : QueueKind → Type 0
 HasKey Standard = Unit {0}
 HasKey (Priority n) = Unit {0}
-HasKey (Sorted key) = (1 ≤ length key) × (length key ≤ 255)
-HasKey (LastValue key) = (1 ≤ length key) × (length key ≤ 255)
+HasKey (Sorted key) = (1 ≤ length key) × (length key ≤ LONGEST_KEY)
+HasKey (LastValue key) = (1 ≤ length key) × (length key ≤ LONGEST_KEY)
 
 -- a limit is none, or 1 to 2 ^ 40
 abbrev pub IsLimit : Option ℕ → Type 0

@@ -14,16 +14,17 @@ use Rattle.fields_read.specs.declared.faults.FieldFault.TheVariants as field
 use Rattle.selector_read.specs.Selectors.{Outcome, reads, refused}
 use Rattle.selector_read.specs.Reading.{selector_of}
 use Rattle.defs_read.specs.Tables.{type_named, later_fields, queue_fields, required_fields, consumer_fields, later_consumer_fields, required_consumer_fields, line_fields}
+use Rattle.defs_read.specs.declared.limits.TheConstants.{LONGEST_LINE, MOST_CONSUMERS}
 use Rattle.defs_read.specs.declared.faults.DefsFault.{DefsFault}
 use Rattle.defs_read.specs.declared.faults.DefsFault.TheVariants.{LineTooLong, NotJson, UnknownField, MissingField, FloatNumber, BadValue, BadSelector, DoubleName, TooManyConsumers}
 
 -- the greatest number of bytes of a line
 abbrev pub longest_line : ℕ
-longest_line = 1048576
+longest_line = LONGEST_LINE
 
 -- the greatest number of consumers of all queues together
 abbrev pub most_consumers : ℕ
-most_consumers = 64
+most_consumers = MOST_CONSUMERS
 
 -- a cause of a field, as one of the definitions
 abbrev pub of_field : FieldFault → DefsFault

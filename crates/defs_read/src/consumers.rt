@@ -10,6 +10,7 @@ ghost use Rattle.defs_read.specs.declared.faults.DefsFault.TheVariants.{TooManyC
 
 use crate::defs::ConsumerDef;
 use crate::faults::DefsFault;
+use crate::limits::MOST_CONSUMERS;
 use crate::names::read_name;
 use crate::tables::{CONSUMER, REQUIRED_CONSUMER};
 use crate::values::copy_text;
@@ -19,9 +20,6 @@ use indexmap::IndexSet;
 use selector_read::{Selector, SelectorFault, read};
 use serde_json::Value;
 use std::alloc::Global;
-
-/// How many consumers all queues have together at most.
-const MOST_CONSUMERS: usize = 64;
 
 /// The selector of a consumer, where it has one.
 fn read_selector(alloc: Global, value: &Value) -> Result<Option<Selector>, DefsFault>

@@ -6,6 +6,7 @@
 mod consumers;
 mod defs;
 mod faults;
+mod limits;
 mod names;
 mod queues;
 mod reading;
@@ -15,11 +16,9 @@ mod values;
 
 pub use defs::{ConsumerDef, Defs, QueueDef, QueueKind};
 pub use faults::DefsFault;
+pub use limits::LONGEST_LINE;
 pub use reading::read_defs;
 pub use slips::slip;
-
-/// The greatest number of bytes of a line, without its line feed.
-pub const LONGEST_LINE: usize = 1_048_576;
 
 #[cfg(test)]
 mod slip_tests;

@@ -11,9 +11,9 @@ ghost use Rattle.defs_read.specs.Reading.{Defines, IsRefused};
 ghost use Rattle.defs_read.specs.Steps.{Reads};
 ghost use Rattle.defs_read.specs.Values.{queues_of};
 
-use crate::LONGEST_LINE;
 use crate::defs::{Defs, QueueDef};
 use crate::faults::DefsFault;
+use crate::limits::LONGEST_LINE;
 use crate::names::check_object;
 use crate::queues::read_queues;
 use crate::tables::LINE;

@@ -4,6 +4,7 @@ use Rattle.serde_json.specs.Data.{Data, Items, no_items, Members, no_members}
 use Rattle.serde_json.specs.Find.{get, as_bool, as_number, as_str, as_array, as_object, as_u64}
 use Rattle.fields_read.specs.Forms.{is_name, is_text_with, is_text_within, is_one_of, is_whole, is_limit, is_list_of, are_headers}
 use Rattle.fields_read.specs.declared.fields.Field.{Field}
+use Rattle.fields_read.specs.declared.limits.TheConstants.{LONGEST_KEY, MOST_PRIORITIES, MOST_QUEUES, TOP_PRIORITY}
 use Rattle.fields_read.specs.declared.fields.Field.TheVariants.{Queues, Name, Kind, Priorities, SortKey, LvqKey, MaximumMessages, MaximumBytes, OverflowPolicy, Consumers, Actor, Selector, Do, Queue, Consumer, Id, Persistent, Priority, Headers, Body}
 
 -- the name that the field has in an object
@@ -39,12 +40,12 @@ policies = codes "NONE" ∷ codes "RING" ∷ codes "PRODUCER_FLOW_CONTROL" ∷ c
 
 -- whether the field may have this value
 abbrev pub accepts : Field → Data → Bool
-accepts Queues d = is_list_of 16 d
+accepts Queues d = is_list_of MOST_QUEUES d
 accepts Name d = is_text_with is_name d
 accepts Kind d = is_one_of types d
-accepts Priorities d = is_whole 1 10 d
-accepts SortKey d = is_text_within 1 255 d
-accepts LvqKey d = is_text_within 1 255 d
+accepts Priorities d = is_whole 1 MOST_PRIORITIES d
+accepts SortKey d = is_text_within 1 LONGEST_KEY d
+accepts LvqKey d = is_text_within 1 LONGEST_KEY d
 accepts MaximumMessages d = is_limit d
 accepts MaximumBytes d = is_limit d
 accepts OverflowPolicy d = is_one_of policies d
@@ -56,7 +57,7 @@ accepts Queue d = is_text_with is_name d
 accepts Consumer d = is_text_with is_name d
 accepts Id d = is_whole 0 (2 ^ 64 - 1) d
 accepts Persistent d = is_some (as_bool d)
-accepts Priority d = is_whole 0 9 d
+accepts Priority d = is_whole 0 TOP_PRIORITY d
 accepts Headers d = are_headers d
 accepts Body d = is_some (as_str d)
 

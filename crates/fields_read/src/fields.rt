@@ -6,6 +6,7 @@ ghost use Rattle.fields_read.specs.Fields.{accepts, name_of};
 use crate::forms::{
     are_headers, is_limit, is_list_of, is_name, is_policy, is_text_within, is_type, is_whole,
 };
+use crate::limits::{LONGEST_KEY, MOST_PRIORITIES, MOST_QUEUES, TOP_PRIORITY};
 use serde_json::Value;
 
 /// A field of definitions or of a script line. Fields of one name are one field.
@@ -87,17 +88,17 @@ impl Field {
         ensures { result ≡ accepts self (view value.now) }
     {
         match self {
-            Field::Queues => is_list_of(value, 16),
+            Field::Queues => is_list_of(value, MOST_QUEUES),
             Field::Name | Field::Actor | Field::Queue | Field::Consumer => is_name(value),
             Field::Kind => is_type(value),
-            Field::Priorities => is_whole(value, 1, 10),
-            Field::SortKey | Field::LvqKey => is_text_within(value, 1, 255),
+            Field::Priorities => is_whole(value, 1, MOST_PRIORITIES),
+            Field::SortKey | Field::LvqKey => is_text_within(value, 1, LONGEST_KEY),
             Field::MaximumMessages | Field::MaximumBytes => is_limit(value),
             Field::OverflowPolicy => is_policy(value),
             Field::Consumers => value.is_array(),
             Field::Id => is_whole(value, 0, u64::MAX),
             Field::Persistent => value.is_boolean(),
-            Field::Priority => is_whole(value, 0, 9),
+            Field::Priority => is_whole(value, 0, TOP_PRIORITY),
             Field::Headers => are_headers(value),
             Field::Selector | Field::Do | Field::Body => value.is_string(),
         }

@@ -9,12 +9,14 @@ mod faults;
 mod fields;
 mod forms;
 mod json;
+mod limits;
 mod reads;
 
 pub use checks::{check_presence, check_values};
 pub use faults::FieldFault;
 pub use fields::Field;
 pub use json::{JsonFault, read_json};
+pub use limits::{LONGEST_KEY, MOST_PRIORITIES, MOST_QUEUES, TOP_PRIORITY};
 pub use reads::{items, number, text, truth};
 
 #[cfg(test)]

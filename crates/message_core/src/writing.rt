@@ -1,6 +1,7 @@
 //! Puts the bytes of headers at the end of a buffer.
 ghost use Rattle.std.specs.Prelude.{◌≡◌, ◌+◌, ◌<◌, ◌≤◌, ◌^◌, ◌++◌, length};
 ghost use Rattle.std.specs.List.{flat_map, All};
+ghost use Rattle.message_core.specs.declared.limits.TheConstants.{LONGEST_NAME};
 ghost use Rattle.message_core.specs.Spelling.{text_bytes, value_bytes, header_bytes, IsHeader};
 
 use crate::headers::{Header, HeaderValue};
@@ -39,7 +40,7 @@ fn put_value(value: &HeaderValue, into: &mut Buffer)
 
 /// Puts a header at the end.
 fn put_header(header: &Header, into: &mut Buffer)
-    requires name { length header.now.name ≤ 255 }
+    requires name { length header.now.name ≤ LONGEST_NAME }
     requires short { length (header_bytes header.now) < 2 ^ 32 }
     requires room { length into.old.bytes + length (header_bytes header.now) ≤ into.old.room }
     ensures bytes { into.new.bytes ≡ into.old.bytes ++ header_bytes header.now }

@@ -4,8 +4,8 @@
 #![tactic(auto)]
 
 mod answers;
+mod phrases;
 mod pieces;
-mod words;
 mod writing;
 
 pub use answers::{Answer, Dropped, Resting, Span};

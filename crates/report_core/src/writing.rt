@@ -8,8 +8,8 @@ ghost use Rattle.report_core.specs.Texts.{answer_line, bytes_of, depth_text, hol
 ghost use Rattle.report_core.specs.Words.{words, Fits};
 
 use crate::answers::{Answer, Dropped, Resting};
+use crate::phrases::say_words;
 use crate::pieces::{say_caller, say_then_number};
-use crate::words::say_words;
 use byte_lists::Bytes;
 use outside_io::{Failed, Sink, write_all};
 

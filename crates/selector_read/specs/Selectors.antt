@@ -7,6 +7,7 @@ use Rattle.selector_tokens.specs.declared.tokens.Token.TheVariants.{Word, Text, 
 use Rattle.selector_tokens.specs.declared.tokens.Word.TheVariants as reserved
 use Rattle.selector_tokens.specs.declared.tokens.Placed.{Placed}
 use Rattle.selector_tokens.specs.Lexing.{lexed}
+use Rattle.selector_read.specs.declared.limits.TheConstants.{LONGEST_TEXT}
 use Rattle.selector_read.specs.Trees.{Tree}
 use Rattle.selector_read.specs.Grammar.{Derives, GoesOn, GoesOnWithin, IsCharacter, most_nested}
 
@@ -17,7 +18,7 @@ pub data Outcome : Type 0 where
 
 -- a text has at most so many bytes
 abbrev pub longest_text : ℕ
-longest_text = 4096
+longest_text = LONGEST_TEXT
 
 -- the tokens without their places
 abbrev pub tokens : List Placed → List Token

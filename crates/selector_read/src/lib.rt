@@ -4,6 +4,7 @@
 mod begun;
 pub mod laws;
 mod levels;
+mod limits;
 mod modes;
 mod patterns;
 mod reading;

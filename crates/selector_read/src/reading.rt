@@ -10,15 +10,13 @@ ghost use Rattle.selector_read.specs.Trees.{tree_of};
 use crate::Selector;
 use crate::begun::Forms;
 use crate::levels::OR;
+use crate::limits::LONGEST_TEXT;
 use crate::modes::{Mode, StepFault};
 use crate::steps::step;
 use crate::trees::Expr;
 use byte_lists::NoMemory;
 use selector_tokens::{Kind, Lexer, SelectorFault};
 use std::alloc::Global;
-
-/// The greatest number of bytes of a text.
-const LONGEST_TEXT: usize = 4096;
 
 /// The fault of a token at a place. `older` is the place of the token two before.
 fn placed(fault: StepFault, at: u64, older: u64) -> SelectorFault

@@ -8,13 +8,13 @@ mod lexer;
 mod names;
 mod next;
 mod numbers;
+mod reserved;
 mod runs;
 mod signs;
 mod strings;
 #[cfg(test)]
 mod tests;
 mod tokens;
-mod words;
 
 pub use faults::{Kind, SelectorFault};
 pub use lexer::Lexer;

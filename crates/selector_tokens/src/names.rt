@@ -5,8 +5,8 @@ ghost use Rattle.selector_tokens.specs.Lexing.{is_name_byte, name_first};
 
 use crate::Token;
 use crate::found::{Found, Unread};
+use crate::reserved::word_of;
 use crate::runs::name_run;
-use crate::words::word_of;
 use byte_lists::Bytes;
 use std::alloc::Global;
 

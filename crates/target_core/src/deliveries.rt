@@ -1,6 +1,7 @@
 //! What is delivered.
 ghost use Rattle.std.specs.Prelude.{◌≡◌, ◌≤◌, length};
 ghost use Rattle.target_core.specs.Seats.{sum_of};
+ghost use Rattle.target_core.specs.declared.deliveries.TheConstants.{MOST_BODY};
 
 /// The most bytes of a body of which a sum is taken.
 pub const MOST_BODY: usize = 1_048_576;
@@ -24,7 +25,7 @@ pub struct Delivery {
 
 /// The sum of a body of at most `MOST_BODY` bytes. Takes no memory.
 pub fn sum(body: &[u8]) -> u64
-    requires { length body.now ≤ 1048576 }
+    requires { length body.now ≤ MOST_BODY }
     ensures { result ≡ sum_of body.now }
 {
     let mut sum = 0;

@@ -2,7 +2,7 @@ use Rattle.std.proofs.Common.{codes}
 use Rattle.std.specs.Fmt.{decimal}
 use Rattle.outside_io.proofs.Saying.{then_fourth, cut_fourth}
 use Rattle.report_core.specs.Words.{said_if, span_text}
-use Rattle.report_core.proofs.words.say_accepted.Goals as goal
+use Rattle.report_core.proofs.phrases.say_accepted.Goals as goal
 
 pub returns-in_err-say_number_and : goal.returns-in_err-say_number_and
 returns-in_err-say_number_and g c =

@@ -2,7 +2,7 @@ use Rattle.std.proofs.Common.{codes}
 use Rattle.outside_io.proofs.Says.{says_then}
 use Rattle.outside_io.proofs.Saying.{cut_second}
 use Rattle.report_core.specs.Words.{span_text}
-use Rattle.report_core.proofs.words.say_committed.Goals as goal
+use Rattle.report_core.proofs.phrases.say_committed.Goals as goal
 
 pub returns : goal.returns
 returns g c =

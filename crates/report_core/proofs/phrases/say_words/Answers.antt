@@ -1,4 +1,4 @@
-use Rattle.report_core.proofs.words.say_words.Goals as goal
+use Rattle.report_core.proofs.phrases.say_words.Goals as goal
 
 pub returns-in-NotStealable : goal.returns-in-NotStealable
 returns-in-NotStealable g c = rw c.in-NotStealable.is c.say_then_state-in-NotStealable.ensures
