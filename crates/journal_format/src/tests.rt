@@ -1,5 +1,9 @@
-use super::batches::read_batch;
+ghost use Rattle.std.specs.Prelude.{◌≡◌, ◌≤◌, length, true, IfOk};
+
+use super::batches::{batch_size, read_batch, write_batch};
 use super::*;
+use byte_lists::{Buffer, Bytes};
+use message_core::{Message, MessageFault};
 use std::alloc::Global;
 use std::process::Abort;
 use std::test::*;
@@ -124,6 +128,43 @@ fn gone_read(rt: HostRuntime) {
         }
         _ => panic!(rt; "no entry"),
     }
+}
+
+/// Message 7 of the journal.
+fn seven(alloc: Global, body: Bytes) -> Result<Message, MessageFault>
+    ensures { IfOk result (λ m. m.persistent ≡ true) }
+{
+    Message::make(alloc, 7, true, 4, Vec::new(alloc), body)
+}
+
+/// The transaction of the journal. The body is to stand at its byte 27.
+fn commit(rt: &impl Abort, alloc: Global) -> Txn
+    ensures { 1 ≤ length result.items }
+{
+    let queue = Bytes::of(alloc, b"q").expect(rt, "memory");
+    let body = Bytes::of(alloc, b"hi").expect(rt, "memory");
+    let message = seven(alloc, body).expect(rt, "a message");
+    let item = Item::Entered { queue, message };
+    let mut txn = Txn::with_room(alloc, item.size()).expect(rt, "memory");
+    match &item {
+        Item::Entered { queue, message } => {
+            let place = txn.entered(queue, message).ok().expect(rt, "a place");
+            assert_eq!(rt; place, 27);
+        }
+        Item::Gone { .. } => panic!(rt; "no entry"),
+    }
+    txn
+}
+
+#[test]
+fn vector_written(rt: HostRuntime) {
+    let alloc = rt.alloc();
+    let txns = [commit(&rt, alloc)];
+    let size = batch_size(&txns);
+    assert_eq!(rt; size, 41);
+    let mut buffer = Buffer::with_room(alloc, size + 1).expect(&rt, "memory");
+    write_batch(&txns, &mut buffer);
+    assert_eq!(rt; buffer.as_slice(), &JOURNAL[LENGTH as usize..]);
 }
 
 /// Makes every call that may want memory, with ample memory, and compares the answer.

@@ -7,3 +7,4 @@ pub mod Resting
 pub mod Starting
 pub mod Settling
 pub mod Waking
+pub mod Handing

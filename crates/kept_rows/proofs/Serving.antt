@@ -80,11 +80,11 @@ sized : (o : Option Reservation) (xs : List Reservation) (h : ℕ) → AllByRecu
 sized None xs h each e = omega arith
 sized (Some v) xs h each e = (all-find IsSized (is_holder h) xs v each e).bytes
 
-reserved_small : (q : Queue) (h : ℕ) → Sound q → (reserved_by q h).bytes ≤ most_bytes * (reserved_by q h).entries
+pub reserved_small : (q : Queue) (h : ℕ) → Sound q → (reserved_by q h).bytes ≤ most_bytes * (reserved_by q h).entries
 reserved_small q h sound = sized (find (is_holder h) q.reserved) q.reserved h sound.reserved_sized refl
 
 -- one more entry can be given
-more_give : (v : Reservation) (size : ℕ) → v.bytes ≤ most_bytes * v.entries → CanGive (with_more v size) size
+pub more_give : (v : Reservation) (size : ℕ) → v.bytes ≤ most_bytes * v.entries → CanGive (with_more v size) size
 more_give v size small = record {
   entry = omega arith;
   bytes = omega arith;

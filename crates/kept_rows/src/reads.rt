@@ -52,7 +52,8 @@ impl<C: Freight, O: Ranking> KeptRows<C, O> {
     /// The first available row in queue order that the consumer wants.
     pub fn first(&self, consumer: u32) -> Option<u64>
         requires { consumer < 64 }
-        ensures some { IfSome result (FirstOf self.now (IsFreeTo consumer) (Comes O.by_key self.now)) }
+        ensures some { IfSome result (FirstOf self.now (IsFreeTo consumer)
+            (Comes O.by_key self.now)) }
         ensures none { IfNone result (NoneOf self.now (IsFreeTo consumer)) }
     {
         row_of(first_wanted::<C, O>(&self.slots, &self.nodes, self.width, 1, consumer))

@@ -28,7 +28,8 @@ impl<C: Freight, O: Ranking> KeptRows<C, O> {
     /// dequeued and not deleted. It takes no memory.
     pub fn into_rest<M: Marking>(self, marking: &M) -> Vec<RestEntry<C>>
         requires rest { AtRest self }
-        ensures rest { RestsOf O.by_key self (M.marks marking.now) (map (left_of C.goods) result.items) }
+        ensures rest { RestsOf O.by_key self (M.marks marking.now)
+            (map (left_of C.goods) result.items) }
     {
         let KeptRows {
             mut slots,
@@ -93,8 +94,10 @@ fn gather<C: Freight, M: Marking>(
     marking: &M,
     rest: &mut Vec<RestEntry<C>>,
 )
-    requires ready { (i : ℕ) → i < length order.now → Ready C.goods slots.old (slice_index order.now i) }
-    requires apart { (i j : ℕ) → i < j → j < length order.now → slice_index order.now i ≢ slice_index order.now j }
+    requires ready { (i : ℕ) → i < length order.now
+        → Ready C.goods slots.old (slice_index order.now i) }
+    requires apart { (i j : ℕ) → i < j → j < length order.now
+        → slice_index order.now i ≢ slice_index order.now j }
     requires none { rest.old.items ≡ [] }
     requires room { length order.now ≤ vec_capacity rest.old }
     ensures { (d : Depth) (spare : ℕ) → Gathered C.goods (kept_of C.goods slots.old d spare)

@@ -77,7 +77,8 @@ fn widen_for<C, O: Ranking>(
     requires tree { Crowned (ranks O.by_key slots.now) width (length slots.now) nodes.old.items }
     requires power { (k : ℕ) × (width ≡ 2 ^ k) }
     ensures ok { IfOk result (λ wide. (rows ≤ wide)
-        × Widened (ranks O.by_key slots.now) (length slots.now) width nodes.old.items wide nodes.new.items) }
+        × Widened (ranks O.by_key slots.now) (length slots.now) width nodes.old.items
+        wide nodes.new.items) }
     ensures err { OnErr result (nodes.new.items ≡ nodes.old.items) }
 {
     let Some(wide) = wide_enough(width, rows) else {

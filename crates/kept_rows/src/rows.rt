@@ -31,6 +31,7 @@ impl<C: Freight, O: Ranking> Model for KeptRows<C, O> {
 
     ghost view = { λ k. kept_of C.goods k.slots.items k.depth k.spare };
 
-    ghost invariant = { λ k. Keeps C.goods O.by_key k.slots.items k.nodes.items k.width × HasRoom (k.spare + vec_len k.slots) k.width
-        (vec_capacity k.slots) (vec_len k.order) (vec_capacity k.order) (vec_len k.rest) (vec_capacity k.rest) };
+    ghost invariant = { λ k. Keeps C.goods O.by_key k.slots.items k.nodes.items k.width
+        × HasRoom (k.spare + vec_len k.slots) k.width (vec_capacity k.slots)
+        (vec_len k.order) (vec_capacity k.order) (vec_len k.rest) (vec_capacity k.rest) };
 }
