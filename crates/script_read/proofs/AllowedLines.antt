@@ -8,15 +8,13 @@ use Rattle.fields_read.specs.Forms.{first_of}
 use Rattle.defs_read.specs.Defined.{Defined, consumers_in}
 use Rattle.defs_read.specs.declared.defs.ConsumerDef.{ConsumerDef}
 use Rattle.defs_read.proofs.Apart.{none_distinct}
-use Rattle.message_core.specs.Spelling.{Content}
-use Rattle.script_read.specs.Allowed.{AreAllowedPhases, HasOwnOps, IsAllowedPhase, IsKept, IsOpOf}
-use Rattle.script_read.specs.Phases.{Actors, filed, open_phase, phases_in, phases_of}
+use Rattle.script_read.specs.Allowed.{AreAllowedPhases, IsAllowedPhase, IsKept}
+use Rattle.script_read.specs.Phases.{Actors, open_phase, phases_in, phases_of}
 use Rattle.script_read.specs.Reading.{line_says, unless}
 use Rattle.script_read.specs.Scripts.{beside, fault_after, goes_on, is_in_phase, is_put_of, line_after, put_causes, puts_this, script_after, script_of}
 use Rattle.script_read.specs.SoFar.{ended_with}
 use Rattle.script_read.specs.declared.faults.LineFault.{LineFault}
 use Rattle.script_read.specs.declared.faults.LineFault.TheVariants.{NoJournal, DoubleId, TooManyActors}
-use Rattle.script_read.specs.declared.faults.ScriptFault.{ScriptFault}
 use Rattle.script_read.specs.declared.lines.Line.{Line}
 use Rattle.script_read.specs.declared.lines.Line.TheVariants.{Rest, Doing}
 use Rattle.script_read.specs.declared.lines.Op.{Op}

@@ -1,6 +1,6 @@
 -- a line that was accepted names what is defined
-use Rattle.std.proofs.Common.{◌≡◌, ℕ, ◌<◌, Bool, true, false, cond, not, List, [], ◌∷◌, length, get_or, Option, Some, None, Result, Ok, Err, refl, sym, ap, ◌∙◌}
-use Rattle.std.specs.Prelude.{◌&&◌, ◌||◌, if◌then◌else◌, nat_lt, is_some, option_map, unwrap_or, slice_get, IsSomeAnd}
+use Rattle.std.proofs.Common.{◌≡◌, ℕ, ◌<◌, Bool, true, false, cond, not, List, [], ◌∷◌, length, Option, Some, None, Ok, Err, refl, sym, ap, ◌∙◌}
+use Rattle.std.specs.Prelude.{◌&&◌, ◌||◌, if◌then◌else◌, nat_lt, is_some, option_map, unwrap_or, slice_get}
 use Rattle.std.specs.List.{find, position, position_or_len}
 use Rattle.std.specs.Str.{bytes_eq}
 use Rattle.std.proofs.lemmas.List.Folds.{find_at}
@@ -11,7 +11,6 @@ use Rattle.fields_read.specs.Faults.{cause_if, lacks, presence_fault, has_unknow
 use Rattle.fields_read.specs.Fields.{text_at, value_at}
 use Rattle.fields_read.specs.Forms.{first_of}
 use Rattle.fields_read.specs.Json.{json_of}
-use Rattle.fields_read.specs.declared.fields.Field.{Field}
 use Rattle.fields_read.specs.declared.fields.Field.TheVariants.{Do, Actor, Queue, Consumer, Id}
 use Rattle.fields_read.specs.declared.faults.FieldFault.{FieldFault}
 use Rattle.fields_read.specs.declared.faults.FieldFault.TheVariants.{UnknownField, MissingField}

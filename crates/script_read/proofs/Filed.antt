@@ -1,7 +1,7 @@
 -- what filing a line keeps of a phase
 use Rattle.std.proofs.Common.{◌≡◌, ℕ, ◌+◌, ◌<◌, ◌≤◌, suc, Bool, true, false, cond, not, ◌||◌, List, [], ◌∷◌, ◌++◌, length, map, refl, sym, ap, ap₂, subst, ◌∙◌, arith}
-use Rattle.std.specs.Prelude.{◌&&◌, nat_le, flat_map}
-use Rattle.std.specs.List.{AllByRecursion, IsDistinct, count_by, list_any}
+use Rattle.std.specs.Prelude.{◌&&◌, nat_le}
+use Rattle.std.specs.List.{AllByRecursion, IsDistinct, count_by}
 use Rattle.std.specs.Str.{bytes_eq}
 use Rattle.std.proofs.lemmas.Bool.Decides.{nat_tests}
 use Rattle.std.proofs.lemmas.Cmp.{nat_list_eq_equiv}
@@ -10,10 +10,10 @@ use Rattle.std.proofs.lemmas.List.Sums.{sum_by-append}
 use Rattle.std.proofs.lemmas.Slice.Eq.{bytes_eq-Decides}
 use Rattle.defs_read.specs.Causes.{is_among}
 use Rattle.defs_read.specs.Defined.{Defined}
-use Rattle.defs_read.proofs.Apart.{distinct_more, none_distinct}
-use Rattle.script_read.specs.Allowed.{HasOwnOps, IsAllowedPhase, IsOpOf, all_ops, ops_in}
+use Rattle.defs_read.proofs.Apart.{distinct_more}
+use Rattle.script_read.specs.Allowed.{HasOwnOps, IsOpOf, all_ops, ops_in}
 use Rattle.script_read.specs.Phases.{Actors, filed, phases_with}
-use Rattle.script_read.specs.Scripts.{is_in_phase, is_put_of, most_actors, puts_this}
+use Rattle.script_read.specs.Scripts.{is_in_phase, is_put_of, puts_this}
 use Rattle.script_read.specs.declared.lines.Line.{Line}
 use Rattle.script_read.specs.declared.lines.Line.TheVariants.{Rest, Doing}
 use Rattle.script_read.specs.declared.lines.Op.{Op}

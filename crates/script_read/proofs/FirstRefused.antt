@@ -1,5 +1,5 @@
 -- a script is refused for the first of its lines that has a cause beside those before it
-use Rattle.std.proofs.Common.{◌≡◌, ℕ, Bool, List, [], ◌∷◌, ◌++◌, Result, Ok, Err, refl, sym, ap, subst, ◌∙◌}
+use Rattle.std.proofs.Common.{◌≡◌, ℕ, Bool, List, [], ◌∷◌, ◌++◌, Result, Ok, Err, refl, ap, subst, ◌∙◌}
 use Rattle.defs_read.specs.Defined.{Defined}
 use Rattle.script_read.specs.Laws.{IsFirstRefused, RefusedOnlyThere, RefusedThere}
 use Rattle.script_read.specs.Lines.{lines_of, numbered}

@@ -1,10 +1,12 @@
 -- first causes, where tests come one after the other
-use Rattle.std.proofs.Common.{◌≡◌, ℕ, ◌≤◌, List, [], ◌∷◌, Bool, true, false, not, Option, Some, None, Ok, Err, refl, ap, ◌∙◌, arith}
-use Rattle.std.specs.Prelude.{◌&&◌, nat_le, if◌then◌else◌, option_map, option_and_then, unwrap_or}
+use Rattle.std.proofs.Common.{◌≡◌, ℕ, ◌≤◌, List, [], ◌∷◌, Bool, true, false, not, Option, Some, None, Ok, Err, refl, sym, ap, ◌∙◌, arith}
+use Rattle.std.specs.Prelude.{◌&&◌, nat_le, if◌then◌else◌, is_some, option_map, option_and_then, unwrap_or}
+use Rattle.std.specs.List.{position}
 use Rattle.std.specs.Option.{ok_or}
+use Rattle.std.specs.Str.{bytes_eq}
 use Rattle.std.proofs.lemmas.Bool.Decides.{nat_tests}
 use Rattle.serde_json.specs.Data.{Data}
-use Rattle.serde_json.specs.Find.{as_number, as_u64}
+use Rattle.serde_json.specs.Find.{as_number, as_str, as_u64}
 use Rattle.fields_read.specs.Faults.{cause_if, passes_unless, field_fault, value_fault, values_fault, presence_fault, is_float_at}
 use Rattle.fields_read.specs.Fields.{accepts, value_at}
 use Rattle.fields_read.specs.Forms.{first_of}
@@ -12,10 +14,11 @@ use Rattle.fields_read.specs.declared.fields.Field.TheVariants.{Do, Actor, Queue
 use Rattle.fields_read.specs.declared.faults.FieldFault.{FieldFault}
 use Rattle.fields_read.specs.declared.faults.FieldFault.TheVariants as field
 use Rattle.defs_read.specs.Defined.{Defined}
-use Rattle.script_read.specs.Causes.{of_field, verb_in, verb_causes, verb_fault, line_fault, message_fault}
+use Rattle.script_read.specs.Causes.{of_field, queue_named, verb_in, verb_causes, verb_fault, line_fault, message_fault}
 use Rattle.script_read.specs.Messages.{message_of, is_too_long}
 use Rattle.script_read.specs.Parts.{verb_said, fields_fault, early_fault, early_message_fault, late_fault, names_no_queue, names_no_consumer, priority_in}
 use Rattle.script_read.specs.Tables.{fields_of, required_of, message_fields}
+use Rattle.script_read.specs.Values.{queue_number}
 use Rattle.script_read.specs.declared.faults.LineFault.{LineFault}
 use Rattle.script_read.specs.declared.faults.LineFault.TheVariants.{BadValue, MissingField, UnknownQueue, UnknownConsumer, TooLong}
 use Rattle.script_read.specs.declared.tables.Verb.{Verb}
@@ -171,3 +174,37 @@ priority_of_put d v is none = priority_by (value_at Priority d) (fifth_none (fie
 
 pub priority_of_message : (d : Data) → values_fault message_fields d ≡ None → priority_in d ≤ 9
 priority_of_message d none = priority_by (value_at Priority d) (third_none _ _ _ _ none)
+
+-- ---- the queue that a line names
+
+known_by : (named : Bool) (at : Option ℕ) (n : ℕ) → at ≡ Some n → ((named && not (is_some at)) ≡ false) × (n ≡ unwrap_or at 0)
+known_by true None n is = cc
+known_by false None n is = cc
+known_by true (Some m) n is = let same : m ≡ n = cc in (refl, sym same)
+known_by false (Some m) n is = let same : m ≡ n = cc in (refl, sym same)
+
+pub queue_known : (queues : List Defined) (d : Data) (n : ℕ) → queue_named queues d ≡ Some n → (names_no_queue queues d ≡ false) × (n ≡ queue_number queues d)
+unfolding names_no_queue
+queue_known queues d n is = known_by (is_some (value_at Queue d)) (queue_named queues d) n is
+
+unknown_by : (x : Option Data) (at : Option ℕ) (y : Data) → x ≡ Some y → at ≡ None → (is_some x && not (is_some at)) ≡ true
+unknown_by None at y named is = cc
+unknown_by (Some z) None y named is = refl
+unknown_by (Some z) (Some n) y named is = cc
+
+pub queue_unknown : (queues : List Defined) (d x : Data) → value_at Queue d ≡ Some x → queue_named queues d ≡ None → names_no_queue queues d ≡ true
+unfolding names_no_queue
+queue_unknown queues d x named is = unknown_by (value_at Queue d) (queue_named queues d) x named is
+
+unnamed_by : (x : Option Data) (at : Option ℕ) → x ≡ None → at ≡ None → ((is_some x && not (is_some at)) ≡ false) × (0 ≡ unwrap_or at 0)
+unnamed_by None None named is = (refl, refl)
+unnamed_by None (Some n) named is = cc
+unnamed_by (Some z) at named is = cc
+
+pub queue_unnamed : (queues : List Defined) (d : Data) → value_at Queue d ≡ None → queue_named queues d ≡ None → (names_no_queue queues d ≡ false) × (0 ≡ queue_number queues d)
+unfolding names_no_queue
+queue_unnamed queues d named is = unnamed_by (value_at Queue d) (queue_named queues d) named is
+
+-- the place of a queue by the text that was found
+pub place_named : (queues : List Defined) (d : Data) (found : Option Data) (text : List ℕ) (place : Option ℕ) → found ≡ value_at Queue d → text ≡ unwrap_or (option_and_then as_str found) [] → place ≡ position (λ q. bytes_eq q.name text) queues → place ≡ queue_named queues d
+place_named queues d found text place is says at = at ∙ ap (λ (t : List ℕ). position (λ q. bytes_eq q.name t) queues) (says ∙ ap (λ (o : Option Data). unwrap_or (option_and_then as_str o) []) is)

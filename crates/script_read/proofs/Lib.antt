@@ -7,6 +7,7 @@ pub mod Tracked
 pub mod Steps
 pub mod Names
 pub mod Contents
+pub mod Meetings
 pub mod Firsts
 pub mod Says
 pub mod DefinedLines

@@ -6,12 +6,14 @@ use Rattle.serde_json.specs.Data.{Data}
 use Rattle.fields_read.specs.Json.{json_of}
 use Rattle.defs_read.specs.Causes.{longest_line}
 use Rattle.defs_read.specs.Defined.{Defined}
+use Rattle.message_core.specs.Spelling.{Content}
 use Rattle.script_read.specs.Causes.{verb_in}
 use Rattle.script_read.specs.Parts.{value_said}
 use Rattle.script_read.specs.Reading.{Gives, unless, json_says, text_says}
 use Rattle.script_read.specs.Values.{line_by, line_in}
 use Rattle.script_read.specs.declared.faults.LineFault.{LineFault}
 use Rattle.script_read.specs.declared.faults.LineFault.TheVariants.{LineTooLong, NotJson, BadValue, MissingField, UnknownField, FloatNumber, UnknownQueue, UnknownConsumer, TooLong, NoJournal, DoubleId, TooManyActors, NoMemory}
+use Rattle.script_read.specs.declared.lines.What.TheVariants as what
 use Rattle.script_read.specs.declared.tables.Verb.{Verb}
 
 -- ---- refusals
@@ -60,6 +62,11 @@ same_value (Some other) x z y is = cc
 pub value_is : {A : Type 0} (cause : Option LineFault) (x z : A) → unless cause x ≡ Ok z → x ≡ z
 value_is None x z is = cc
 value_is (Some other) x z is = cc
+
+-- a put of the message that was said
+pub put_said : (cause : Option LineFault) (q : ℕ) (m n : Content) → unless cause m ≡ Ok n → unless cause (Some (what.Put q m)) ≡ Ok (Some (what.Put q n))
+put_said None q m n is = ap (λ (m : Content). Ok (Some (what.Put q m))) (value_is None m n is)
+put_said (Some other) q m n is = cc
 
 -- ---- texts
 

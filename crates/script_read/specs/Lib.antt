@@ -1,6 +1,7 @@
 pub mod Lines
 pub mod Tables
 pub mod Messages
+pub mod Meetings
 pub mod Causes
 pub mod Values
 pub mod Reading

@@ -1,13 +1,16 @@
 //! Tests a line's value, up to the causes that its message may have.
-ghost use Rattle.std.specs.Prelude.{◌≡◌, ◌≤◌, ◌&&◌, length, option_map};
-ghost use Rattle.std.specs.List.{find};
+ghost use Rattle.std.specs.Prelude.{◌≡◌, ◌≤◌, ◌&&◌, [], List, false, true, length, MatchResult, None, Some, option_and_then, option_map, unwrap_or};
+ghost use Rattle.std.specs.List.{find, position};
 ghost use Rattle.std.specs.Str.{bytes_eq};
+ghost use Rattle.serde_json.specs.Find.{as_str};
 ghost use Rattle.serde_json.specs.View.{view};
 ghost use Rattle.fields_read.specs.Faults.{passes_unless};
 ghost use Rattle.defs_read.specs.Allowed.{most_queues};
 ghost use Rattle.defs_read.specs.Defined.{queues_in};
-ghost use Rattle.script_read.specs.Causes.{consumer_named, queue_named};
+ghost use Rattle.script_read.specs.Causes.{consumer_named};
 ghost use Rattle.script_read.specs.Parts.{early_fault, early_message_fault, fields_fault, names_no_consumer, names_no_queue, text_or_none, verb_said};
+ghost use Rattle.script_read.specs.Values.{queue_number};
+ghost use Rattle.script_read.specs.declared.faults.LineFault.TheVariants.{UnknownQueue};
 
 use crate::faults::LineFault;
 use crate::tables::{MESSAGE, MESSAGE_REQUIRED, Verb};
@@ -33,21 +36,31 @@ pub(crate) fn verb_of(value: &Value) -> Result<Verb, LineFault>
     if !value.is_object() {
         return Err(LineFault::BadValue);
     }
-    if value.get(Field::Do.name()).is_none() {
+    let Some(said) = value.get(Field::Do.name()) else {
         return Err(LineFault::MissingField);
-    }
-    match text(value, Field::Do).and_then(Verb::named) {
+    };
+    match said.as_str().and_then(Verb::named) {
         Some(verb) => Ok(verb),
         None => Err(LineFault::BadValue),
     }
 }
 
-/// The number of the queue that the line names.
-pub(crate) fn queue_named(value: &Value, defs: &Defs) -> Option<u32>
-    requires few { length (queues_in defs.now) ≤ most_queues }
-    ensures { result ≡ queue_named (queues_in defs.now) (view value.now) }
+/// The bytes of a value that is a text; none where it is something else, or there is none.
+fn bytes_in(value: Option<&Value>) -> &[u8]
+    ensures { result.now
+        ≡ unwrap_or (option_and_then as_str (option_map (λ v. view v.now) value.entry)) [] }
 {
-    let name = text_bytes(value, Field::Queue);
+    match value.and_then(Value::as_str) {
+        Some(text) => text.as_bytes(),
+        None => &[],
+    }
+}
+
+/// The number of the queue of this name.
+fn queue_at(name: &[u8], defs: &Defs) -> Option<u32>
+    requires few { length (queues_in defs.now) ≤ most_queues }
+    ensures { result ≡ position (λ q. bytes_eq q.name name.now) (queues_in defs.now) }
+{
     match defs
         .queues
         .iter()
@@ -55,6 +68,26 @@ pub(crate) fn queue_named(value: &Value, defs: &Defs) -> Option<u32>
     {
         Some(at) => Some(at as u32),
         None => None,
+    }
+}
+
+/// The number of the queue that the line names, and 0 where it names none. UnknownQueue where it names one that is not
+/// defined.
+fn queue_of(value: &Value, defs: &Defs) -> Result<u32, LineFault>
+    requires few { length (queues_in defs.now) ≤ most_queues }
+    ensures { MatchResult result
+        (λ number. (names_no_queue (queues_in defs.now) (view value.now) ≡ false)
+        × (number ≡ queue_number (queues_in defs.now) (view value.now)))
+        (λ fault. (names_no_queue (queues_in defs.now) (view value.now) ≡ true)
+        × (fault ≡ UnknownQueue)) }
+{
+    let named = value.get(Field::Queue.name());
+    match queue_at(bytes_in(named), defs) {
+        Some(number) => Ok(number),
+        None => match named {
+            Some(_) => Err(LineFault::UnknownQueue),
+            None => Ok(0),
+        },
     }
 }
 
@@ -85,15 +118,6 @@ pub(crate) fn consumer_named(value: &Value, defs: &Defs) -> Option<u32>
     None
 }
 
-/// Whether the line names a queue that is not defined.
-#[tactic(auto, unfolding(crate::specs::Parts::names_no_queue))]
-fn names_no_queue(value: &Value, defs: &Defs) -> bool
-    requires few { length (queues_in defs.now) ≤ most_queues }
-    ensures { result ≡ names_no_queue (queues_in defs.now) (view value.now) }
-{
-    value.get(Field::Queue.name()).is_some() && queue_named(value, defs).is_none()
-}
-
 /// Whether the line names a consumer that its actor does not have.
 #[tactic(auto, unfolding(crate::specs::Parts::names_no_consumer))]
 fn names_no_consumer(value: &Value, defs: &Defs) -> bool
@@ -119,20 +143,22 @@ fn check_fields(
     Ok(())
 }
 
-/// Tests a line that does this: its fields, their values, and the queue and the consumer that it names.
-pub(crate) fn check_line(value: &Value, verb: Verb, defs: &Defs) -> Result<(), LineFault>
+/// Tests a line that does this: its fields, their values, and the queue and the consumer that it names. Gives the number
+/// of the queue that it names, and 0 where it names none.
+pub(crate) fn check_line(value: &Value, verb: Verb, defs: &Defs) -> Result<u32, LineFault>
     requires few { length (queues_in defs.now) ≤ most_queues }
-    ensures { result ≡ passes_unless (early_fault (queues_in defs.now) (view value.now) verb) }
+    ensures { MatchResult result
+        (λ queue. (early_fault (queues_in defs.now) (view value.now) verb ≡ None)
+        × (queue ≡ queue_number (queues_in defs.now) (view value.now)))
+        (λ fault. early_fault (queues_in defs.now) (view value.now) verb ≡ Some fault) }
 {
     let fields = verb.fields();
     check_fields(value, fields, verb.required(), &fields[1..])?;
-    if names_no_queue(value, defs) {
-        return Err(LineFault::UnknownQueue);
-    }
+    let queue = queue_of(value, defs)?;
     if names_no_consumer(value, defs) {
         return Err(LineFault::UnknownConsumer);
     }
-    Ok(())
+    Ok(queue)
 }
 
 /// Tests the line of a message that stands by itself: that it is an object, its fields and their values.

@@ -11,6 +11,7 @@ mod line_feeds;
 mod lines;
 mod messages;
 mod open_phase;
+mod pieces;
 mod reading;
 mod scripts;
 mod so_far;

@@ -1,12 +1,15 @@
 //! Where a text parts into lines.
-ghost use Rattle.std.specs.Prelude.{◌≡◌, ◌==◌, ◌<◌, ◌∷◌, length, position};
+ghost use Rattle.std.specs.Prelude.{◌≡◌, ◌==◌, ◌<◌, ◌∷◌, length};
+ghost use Rattle.memchr.specs.Find.{IsFirstByte};
 ghost use Rattle.script_read.specs.Lines.{is_blank, lines_of};
+
+use memchr::memchr;
 
 /// Where the first line feed stands.
 fn line_end(bytes: &[u8]) -> Option<usize>
-    ensures { result ≡ position (λ byte. byte == 10) bytes.now }
+    ensures { IsFirstByte (λ byte. byte == 10) bytes.now result }
 {
-    bytes.iter().position(|byte| *byte == b'\n')
+    memchr(b'\n', bytes)
 }
 
 /// The bytes before the first line feed, and those after it: all bytes and none, where there is no line feed.

@@ -1,20 +1,19 @@
 //! The message that an object says.
-ghost use Rattle.std.specs.Prelude.{◌≡◌, ◌≤◌, ℕ, List, [], false, option_map, option_and_then, unwrap_or, IfOk};
+ghost use Rattle.std.specs.Prelude.{◌≡◌, ◌≤◌, [], option_map, option_and_then, unwrap_or, IfOk};
 ghost use Rattle.std.specs.List.{All, IsDistinct};
 ghost use Rattle.std.specs.Str.{IsUtf8, bytes_eq};
 ghost use Rattle.std.specs.String.{string_bytes};
 ghost use Rattle.serde_json.specs.Data.{no_members};
-ghost use Rattle.serde_json.specs.Find.{as_object, as_str, get_member};
+ghost use Rattle.serde_json.specs.Find.{as_bool, as_number, as_object, as_str, as_u64};
 ghost use Rattle.serde_json.specs.View.{members_view, view};
-ghost use Rattle.fields_read.specs.Fields.{name_of};
 ghost use Rattle.message_core.specs.Spelling.{IsReadable, IsText, names, parts};
 ghost use Rattle.script_read.specs.Messages.{header_value, headers_of, message_of};
 ghost use Rattle.script_read.specs.Parts.{content_said, of_message, priority_in};
 ghost use Rattle.script_read.specs.Reading.{Gives};
 
 use crate::faults::LineFault;
+use crate::pieces::{Pieces, pieces_of};
 use byte_lists::{Bytes, NoMemory};
-use fields_read::{Field, number, truth};
 use message_core::{Header, HeaderValue, Message, MessageFault};
 use serde_json::{Map, Value};
 use std::alloc::Global;
@@ -50,7 +49,9 @@ fn headers_of(alloc: Global, members: Map<String, Value>) -> Result<Vec<Header>,
     ensures readable { IfOk result (λ headers. All IsReadable headers.items) }
     ensures distinct { IfOk result (λ headers. IsDistinct bytes_eq (names headers.items)) }
 {
-    let mut headers = Vec::new(alloc);
+    let Ok(mut headers) = Vec::with_capacity(alloc, members.len()) else {
+        return Err(NoMemory);
+    };
     for (name, value) in members {
         let header = Header {
             name: bytes_of(name),
@@ -62,17 +63,6 @@ fn headers_of(alloc: Global, members: Map<String, Value>) -> Result<Vec<Header>,
         }
     }
     Ok(headers)
-}
-
-/// Takes the value of the field out of the members.
-fn taken(members: &mut Map<String, Value>, field: Field) -> Option<Value>
-    ensures value { option_map (λ v. view v) result
-        ≡ get_member (name_of field) (members_view members.old.entries) }
-    ensures others { (name : List ℕ) → bytes_eq (name_of field) name ≡ false
-        → get_member name (members_view members.new.entries)
-        ≡ get_member name (members_view members.old.entries) }
-{
-    members.remove(field.name())
 }
 
 /// The members of the object; none where it is something else.
@@ -93,6 +83,27 @@ fn text_of(alloc: Global, value: Option<Value>) -> Bytes
     match value {
         Some(Value::String(text)) => bytes_of(text),
         _ => Bytes::from_vec(Vec::new(alloc)),
+    }
+}
+
+/// The whole number from 0 to 2^64 - 1 that the value is; none where it is something else.
+fn number_of(value: Option<Value>) -> Option<u64>
+    ensures { result
+        ≡ option_and_then as_u64 (option_and_then as_number (option_map (λ v. view v) value)) }
+{
+    match value {
+        Some(value) => value.as_u64(),
+        None => None,
+    }
+}
+
+/// The truth value that the value is; none where it is something else.
+fn truth_of(value: Option<Value>) -> Option<bool>
+    ensures { result ≡ option_and_then as_bool (option_map (λ v. view v) value) }
+{
+    match value {
+        Some(value) => value.as_bool(),
+        None => None,
     }
 }
 
@@ -133,12 +144,18 @@ pub(crate) fn message_of(alloc: Global, value: Value) -> Result<Message, LineFau
     requires { priority_in (view value) ≤ 9 }
     ensures { Gives result (content_said (message_of (view value))) }
 {
-    let id = number(&value, Field::Id).unwrap_or(0);
-    let persistent = truth(&value, Field::Persistent).unwrap_or(false);
-    let priority = number(&value, Field::Priority).unwrap_or(USUAL_PRIORITY) as u8;
-    let mut members = members_of(alloc, Some(value));
-    let headers = taken(&mut members, Field::Headers);
-    let body = text_of(alloc, taken(&mut members, Field::Body));
+    let pieces = pieces_of(members_of(alloc, Some(value)));
+    let Pieces {
+        id,
+        persistent,
+        priority,
+        headers,
+        body,
+    } = pieces;
+    let id = number_of(id).unwrap_or(0);
+    let persistent = truth_of(persistent).unwrap_or(false);
+    let priority = number_of(priority).unwrap_or(USUAL_PRIORITY) as u8;
+    let body = text_of(alloc, body);
     match headers_of(alloc, members_of(alloc, headers)) {
         Ok(headers) => made(alloc, id, persistent, priority, headers, body),
         Err(_) => Err(LineFault::NoMemory),

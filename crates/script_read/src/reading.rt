@@ -10,7 +10,7 @@ ghost use Rattle.script_read.specs.Reading.{Gives, line_says, message_says, unle
 ghost use Rattle.script_read.specs.Tables.{fields_of};
 ghost use Rattle.script_read.specs.Values.{consumer_number, line_by, line_in, queue_number, what_by};
 
-use crate::checks::{check_line, check_message, consumer_named, queue_named, text_bytes, verb_of};
+use crate::checks::{check_line, check_message, consumer_named, text_bytes, verb_of};
 use crate::faults::LineFault;
 use crate::lines::{Line, Op, What};
 use crate::messages::message_of;
@@ -37,14 +37,6 @@ fn read_value(alloc: Global, line: &[u8]) -> Result<Value, LineFault>
     }
 }
 
-/// The number of the queue that the line names; 0 where it names none.
-fn queue_number(value: &Value, defs: &Defs) -> u32
-    requires few { length (queues_in defs.now) ≤ most_queues }
-    ensures { result ≡ queue_number (queues_in defs.now) (view value.now) }
-{
-    queue_named(value, defs).unwrap_or(0)
-}
-
 /// The number of the consumer that the line names; 0 where it names none.
 fn consumer_number(value: &Value, defs: &Defs) -> u32
     ensures { result ≡ consumer_number (queues_in defs.now) (view value.now) }
@@ -52,31 +44,50 @@ fn consumer_number(value: &Value, defs: &Defs) -> u32
     consumer_named(value, defs).unwrap_or(0)
 }
 
-/// What the line does by this verb, where it has no earlier cause; none where it is a rest. TooLong where its message
-/// passes a limit.
-fn what_by(alloc: Global, verb: Verb, value: Value, defs: &Defs) -> Result<Option<What>, LineFault>
-    requires few { length (queues_in defs.now) ≤ most_queues }
+/// What the line does by this verb, where it has no earlier cause, and names the queue of this number; none where it is a
+/// rest. TooLong where its message passes a limit.
+fn what_by(
+    alloc: Global,
+    verb: Verb,
+    value: Value,
+    queue: u32,
+    defs: &Defs,
+) -> Result<Option<What>, LineFault>
+    requires queue { queue ≡ queue_number (queues_in defs.now) (view value) }
     requires checked { values_fault (fields_of verb) (view value) ≡ None }
     ensures { Gives result (unless (late_fault (view value) verb)
         (what_by (queues_in defs.now) (view value) verb)) }
 {
-    let queue = queue_number(&value, defs);
-    let consumer = consumer_number(&value, defs);
-    let id = number(&value, Field::Id);
     match verb {
         Verb::Put => match message_of(alloc, value) {
             Ok(message) => Ok(Some(What::Put { queue, message })),
             Err(fault) => Err(fault),
         },
-        Verb::Take => Ok(Some(What::Take { consumer })),
-        Verb::Close => Ok(Some(What::Close { consumer })),
-        Verb::Ack => Ok(Some(What::Ack { queue, id })),
-        Verb::Release => Ok(Some(What::Release { queue, id })),
-        Verb::Lock => Ok(Some(What::Lock { queue, id })),
-        Verb::Unlock => Ok(Some(What::Unlock { queue, id })),
+        Verb::Take => Ok(Some(What::Take {
+            consumer: consumer_number(&value, defs),
+        })),
+        Verb::Close => Ok(Some(What::Close {
+            consumer: consumer_number(&value, defs),
+        })),
+        Verb::Ack => Ok(Some(What::Ack {
+            queue,
+            id: number(&value, Field::Id),
+        })),
+        Verb::Release => Ok(Some(What::Release {
+            queue,
+            id: number(&value, Field::Id),
+        })),
+        Verb::Lock => Ok(Some(What::Lock {
+            queue,
+            id: number(&value, Field::Id),
+        })),
+        Verb::Unlock => Ok(Some(What::Unlock {
+            queue,
+            id: number(&value, Field::Id),
+        })),
         Verb::Steal => Ok(Some(What::Steal {
             queue,
-            id: id.unwrap_or(0),
+            id: number(&value, Field::Id).unwrap_or(0),
         })),
         Verb::Begin => Ok(Some(What::Begin)),
         Verb::Commit => Ok(Some(What::Commit)),
@@ -85,15 +96,16 @@ fn what_by(alloc: Global, verb: Verb, value: Value, defs: &Defs) -> Result<Optio
     }
 }
 
-/// The line of this number that does this, where it has no earlier cause; TooLong where its message passes a limit.
+/// The line of this number that does this, where it has no earlier cause, and names the queue of this number; TooLong where its message passes a limit.
 fn line_by(
     alloc: Global,
     verb: Verb,
     value: Value,
+    queue: u32,
     line: u64,
     defs: &Defs,
 ) -> Result<Line, LineFault>
-    requires few { length (queues_in defs.now) ≤ most_queues }
+    requires queue { queue ≡ queue_number (queues_in defs.now) (view value) }
     requires checked { values_fault (fields_of verb) (view value) ≡ None }
     ensures { Gives result (unless (late_fault (view value) verb)
         (line_by (queues_in defs.now) line (view value) verb)) }
@@ -102,7 +114,7 @@ fn line_by(
         Ok(actor) => actor,
         Err(_) => return Err(LineFault::NoMemory),
     };
-    match what_by(alloc, verb, value, defs) {
+    match what_by(alloc, verb, value, queue, defs) {
         Ok(Some(what)) => Ok(Line::Doing(Op { line, actor, what })),
         Ok(None) => Ok(Line::Rest),
         Err(fault) => Err(fault),
@@ -116,8 +128,8 @@ fn line_of(alloc: Global, value: Value, number: u64, defs: &Defs) -> Result<Line
         (line_in (queues_in defs.now) number (view value))) }
 {
     let verb = verb_of(&value)?;
-    check_line(&value, verb, defs)?;
-    line_by(alloc, verb, value, number, defs)
+    let queue = check_line(&value, verb, defs)?;
+    line_by(alloc, verb, value, queue, number, defs)
 }
 
 /// The line of this number that the text says, where these queues are defined. Tests the line by itself, up to TooLong,

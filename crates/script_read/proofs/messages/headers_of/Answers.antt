@@ -15,8 +15,8 @@ pub loop-name-preserved : goal.loop-name-preserved
 loop-name-preserved c =
     let header : Header = record { name = c.bytes_of.result; value = c.header_value.result } in
     record {
-      items = one_more c.loop-name.headers.items c.push.new.self.items c.loop-name.yielded (c.in-Some.name, c.in-Some.value) header c.loop-name.invariant.items c.in-Ok.ensures.items c.bytes_of.ensures.value c.header_value.ensures.value;
-      readable = subst (λ (hs : List Header). All IsReadable hs) (sym c.in-Ok.ensures.items) (All-push IsReadable c.loop-name.headers.items header c.loop-name.invariant.readable (record { name = c.bytes_of.ensures.utf8; text = c.header_value.ensures.text }));
+      items = one_more c.loop-name.headers.items c.push.new.self.items c.loop-name.yielded (c.in-Some.name, c.in-Some.value) header c.loop-name.invariant.items c.in-Ok-push.ensures.items c.bytes_of.ensures.value c.header_value.ensures.value;
+      readable = subst (λ (hs : List Header). All IsReadable hs) (sym c.in-Ok-push.ensures.items) (All-push IsReadable c.loop-name.headers.items header c.loop-name.invariant.readable (record { name = c.bytes_of.ensures.utf8; text = c.header_value.ensures.text }));
     }
 
 all_read : (c : After-drop-name-iterator-2) → c.loop-name.headers.items ≡ map header_of c.args.members.entries
