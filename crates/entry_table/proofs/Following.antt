@@ -23,6 +23,7 @@ use Rattle.link_core.specs.Stands.{Points, Chain, Stands}
 use Rattle.link_core.specs.Steps.{shown as word_shown}
 use Rattle.link_core.specs.Table.{Table}
 use Rattle.link_core.proofs.Fewer as fewer
+use Rattle.link_core.proofs.Fewer.{position_in}
 use Rattle.link_core.proofs.InLists.{found_there, row_of_list}
 use Rattle.link_core.proofs.Leading.{chain_points, row_points}
 use Rattle.acts_core.specs.Walks.{node_at, reach, IsOfList, IsStop, AreDeleted, Follows, FollowsTo}

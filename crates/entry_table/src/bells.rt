@@ -9,7 +9,7 @@ ghost use Rattle.acts_core.specs.Walks.{IsOfList};
 ghost use Rattle.entry_table.specs.Bells.{at_bell, ActsAtBell, RingsBell, TakesBell};
 ghost use Rattle.entry_table.specs.Passes.{IsPassOf, Kept, KeepsRights, Did, consumers, state, view};
 ghost use Rattle.entry_table.specs.Skips.{watched};
-ghost use Rattle.entry_table.specs.Views.{Has, rest_of, state_in};
+ghost use Rattle.entry_table.specs.Views.{rest_of, state_in};
 
 use crate::entries::Entries;
 use crate::pass::Pass;
@@ -161,8 +161,35 @@ impl<C: Freight> Entries<C> {
             × (place_at (state pass.new) row < self.now.shape.rows)) }
     {
         let mut seat = mem::replace(&mut pass.badge, Badge::blank()).into_seat::<Option<C>>();
-        let found = self.silence_at::<Brand>(&mut seat, consumer, list, pass.caller);
+        let row = self.silence(&mut seat, consumer, list, pass.caller);
         pass.badge = seat.into_badge();
+        row
+    }
+
+    // The row of the bell that is taken.
+    fn silence(
+        &self,
+        seat: &mut Seat<Option<C>, View>,
+        consumer: u32,
+        list: u32,
+        caller: u64,
+    ) -> Option<u64>
+        requires table { seat.old.table_id ≡ self.now.table.shared.table_id }
+        requires shape { seat.old.me.0.shape ≡ self.now.shape }
+        requires caller { seat.old.me.0.callers ≡ caller ∷ rest_of seat.old.me.0.callers }
+        requires idle { seat.old.me.0.slot ≡ None }
+        requires consumer { Mem consumer seat.old.me.0.consumers }
+        requires list { list < self.now.shape.lists }
+        ensures table { (seat.new.table_id ≡ seat.old.table_id) × (seat.new.id ≡ seat.old.id) }
+        ensures told { (n : ℕ) × at_bell (steps.TakeBell consumer list) (acts.Take consumer list) consumer
+            list seat.old.me n seat.new.me }
+        ensures takes { TakesBell caller seat.old.me.0 seat.new.me.0 consumer list result }
+        ensures there { IfSome result (λ row. IsOfList (state_in seat.new.me.0) list row) }
+        ensures low { IfSome result (λ row.
+            (row < self.now.shape.rows)
+            × (place_at (state_in seat.new.me.0) row < self.now.shape.rows)) }
+    {
+        let found = self.silence_at::<Brand>(seat, consumer, list, caller);
         bell_row(found)
     }
 
@@ -177,7 +204,7 @@ impl<C: Freight> Entries<C> {
         requires table { seat.old.table_id ≡ self.now.table.shared.table_id }
         requires caller { seat.old.me.0.callers ≡ caller ∷ rest_of seat.old.me.0.callers }
         requires idle { seat.old.me.0.slot ≡ None }
-        requires consumer { Has consumer seat.old.me.0.consumers }
+        requires consumer { Mem consumer seat.old.me.0.consumers }
         requires list { list < self.now.shape.lists }
         ensures table { (seat.new.table_id ≡ seat.old.table_id) × (seat.new.id ≡ seat.old.id) }
         ensures told { at_bell (steps.TakeBell consumer list) (acts.Take consumer list) consumer list
