@@ -130,7 +130,7 @@ module _ {C : Type 0} (load : C → Load) (shape : Shape) where
   -- a bell is rung for a row that the pass knows
   pub ring_allowed : (slots id c row : ℕ) (m : Me (Option C) View) (h : ℕ) (ended : List ℕ) → m.0.callers ≡ h ∷ ended → m.0.slot ≡ None → c < shape.consumers → (x : Row) → row_at (after m.0.opening m.0.seen) row ≡ Some x
       → Allows (Ruled load shape) slots id m (bell_of shape.rows c (list_at (after m.0.opening m.0.seen) row)) (λ n. min n (place_at (after m.0.opening m.0.seen) row * PLACE_WORTH + row))
-          (at_bell (steps.Ring c row) (acts.Bell row c) c (list_at (after m.0.opening m.0.seen) row) m)
+      (at_bell (steps.Ring c row) (acts.Bell row c) c (list_at (after m.0.opening m.0.seen) row) m)
   ring_allowed slots id c row m h ended is idle less x found s ruled len at small =
       let v : View = m.0 in
       let r = opened load shape s id v h ended is at ruled in
@@ -280,9 +280,9 @@ rings_bell old mid late new c row l at k d shown_mid list m e shown_late place r
     let opens : opening late ≡ opening old = m.opening ∙ k.opening in
     let front : List Tried = draft_look row drafts.List (list_at (state old) row) (seen mid) ∷ draft_look row drafts.Place (place_at (state old) row) (seen late) ∷ [] in
     let looked : shown late ≡ shown old ++ front =
-      shown_late ∙ ap (λ (ts : List Tried). ts ++ draft_look row drafts.Place at (seen late) ∷ []) shown_mid
-      ∙ append_assoc (shown old) (draft_look row drafts.List l (seen mid) ∷ []) (draft_look row drafts.Place at (seen late) ∷ [])
-      ∙ ap₂ (λ (y z : ℕ). shown old ++ draft_look row drafts.List y (seen mid) ∷ draft_look row drafts.Place z (seen late) ∷ []) list place in
+    shown_late ∙ ap (λ (ts : List Tried). ts ++ draft_look row drafts.Place at (seen late) ∷ []) shown_mid
+    ∙ append_assoc (shown old) (draft_look row drafts.List l (seen mid) ∷ []) (draft_look row drafts.Place at (seen late) ∷ [])
+    ∙ ap₂ (λ (y z : ℕ). shown old ++ draft_look row drafts.List y (seen mid) ∷ draft_look row drafts.Place z (seen late) ∷ []) list place in
     let last : Queue → ℕ → Tried = λ o y. entry (steps.Ring c row) (bell_word (after o rings.before) c y) (bell_word (after o (seen new)) c y) (seen new) in record {
       first = seen mid;
       second = seen late;

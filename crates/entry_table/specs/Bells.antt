@@ -66,7 +66,7 @@ pub record ActsAtBell (h : ℕ) (v w : View) (step : Step) (a : Act) (c l : ℕ)
       w.shown
       ≡ v.shown
       ++ entry step (bell_word (after v.opening before) c l)
-        (bell_word (after v.opening w.seen) c l) w.seen ∷ []
+      (bell_word (after v.opening w.seen) c l) w.seen ∷ []
 
 -- the entry of a load of a draft word of row r, which was n
 abbrev pub draft_look : ℕ → DraftWord → ℕ → List Deed → Tried
@@ -86,8 +86,8 @@ pub record RingsBell (h : ℕ) (v w : View) (c r : ℕ) : Type 0 where
       ≡ v.shown
       ++ draft_look r drafts.List (list_at q r) first
       ∷ draft_look r drafts.Place (place_at q r) second
-        ∷ entry (steps.Ring c r) (bell_word (after v.opening before) c (list_at q r))
-          (bell_word (after v.opening w.seen) c (list_at q r)) w.seen ∷ []
+      ∷ entry (steps.Ring c r) (bell_word (after v.opening before) c (list_at q r))
+      (bell_word (after v.opening w.seen) c (list_at q r)) w.seen ∷ []
 
 -- The caller h took the bell of consumer c at list l. The answer is the row that it was rung for, as it was just before.
 pub record TakesBell (h : ℕ) (v w : View) (c l : ℕ) (row : Option ℕ) : Type 0 where

@@ -128,13 +128,13 @@ abbrev pub reserved : {S : Type 0} → ℕ → Me S View → ℕ → Me S View �
 reserved size m n m' =
     (m'.1 ≡ m.1)
     × Deepens m.0 m'.0 (steps.Reserve size) (acts.Reserve size) (m.0.allowance - 1) n
-      (n + (entry_worth + size))
+    (n + (entry_worth + size))
 
 abbrev pub gave_back : {S : Type 0} → ℕ → Me S View → ℕ → Me S View → Type 0
 gave_back size m n m' =
     (m'.1 ≡ m.1)
     × Deepens m.0 m'.0 (steps.GiveBack size) (acts.GiveBack size) (m.0.allowance + 1) n
-      (n - (entry_worth + size))
+    (n - (entry_worth + size))
 
 -- An entry of this size was reserved.
 pub record DidReserve (v w : View) (size : ℕ) : Type 0 where
@@ -574,7 +574,7 @@ changed_view v row change from slot a before = let seen : List Deed = before ++ 
       shown =
           v.shown
           ++ entry (steps.State row change from) (pack_state from)
-            (pack_state (goes_to (caller_of v.callers) change)) seen ∷ [];
+          (pack_state (goes_to (caller_of v.callers) change)) seen ∷ [];
     }
 
 -- The row was x just before the act, in the state that the change goes from.
@@ -592,11 +592,11 @@ abbrev pub took :
     → Type 0
 took {C} load row change from m n m' =
     (n ≡ pack_state from
-     → (c : C)
-     × (x : Row)
-     × IsLoadOf x (load c)
-     × (m'.1 ≡ (row, Some c) ∷ m.1)
-     × DidChange m.0 m'.0 row change from (Some row) (act_with 0 change row) x)
+    → (c : C)
+    × (x : Row)
+    × IsLoadOf x (load c)
+    × (m'.1 ≡ (row, Some c) ∷ m.1)
+    × DidChange m.0 m'.0 row change from (Some row) (act_with 0 change row) x)
     × (n ≢ pack_state from → looked (steps.State row change from) m n m')
 
 -- a change that brings the cargo home: it cannot miss, since the pass holds the row
@@ -605,15 +605,15 @@ abbrev pub freed :
 freed row change from count m n m' =
     (n ≡ pack_state from)
     × ((x : Row)
-      × (m'.1 ≡ rest m.1)
-      × DidChange m.0 m'.0 row change from None (act_with count change row) x)
+    × (m'.1 ≡ rest m.1)
+    × DidChange m.0 m'.0 row change from None (act_with count change row) x)
 
 -- a change that moves no cargo
 abbrev pub ended :
     {C : Type 0} → ℕ → Change → RowState → Me (Option C) View → ℕ → Me (Option C) View → Type 0
 ended row change from m n m' =
     (n ≡ pack_state from
-     → (x : Row) × (m'.1 ≡ m.1) × DidChange m.0 m'.0 row change from None (act_with 0 change row) x)
+    → (x : Row) × (m'.1 ≡ m.1) × DidChange m.0 m'.0 row change from None (act_with 0 change row) x)
     × (n ≢ pack_state from → looked (steps.State row change from) m n m')
 
 -- changes that take the row's cargo out

@@ -63,9 +63,9 @@ word_earlier t q l b s of (Some a) all =
     (λ (second : nat_lt b.place a.place ≡ false).
     let more : a.place ≤ b.place = ltb-false b.place a.place second in
     let under : pack_bell (Some a) ≤ pack_bell (Some b) = ⊎_elim
-        (λ (same : a.place ≡ b.place). let row = same_row q l a b of_a of same in omega (arith, same, row))
-        (λ (other : a.place ≢ b.place). omega (arith, more, other, low_a.0, few))
-        (cases_eq a.place b.place) in
+    (λ (same : a.place ≡ b.place). let row = same_row q l a b of_a of same in omega (arith, same, row))
+    (λ (other : a.place ≢ b.place). omega (arith, more, other, low_a.0, few))
+    (cases_eq a.place b.place) in
     min-eq_left under ∙ ap pack_bell (sym (cond-false (nat_lt b.place a.place) (Some b) (Some a) second)))
     (cases_Bool (nat_lt b.place a.place))
 
@@ -141,10 +141,12 @@ ring_step t q h c r s fits =
     let word : bell_word t r ≡ pack_bell (Some new) = ap (λ (n : ℕ). n * PLACE_WORTH + r) drafted.place in
     let before : slice_index t.words (bell_of t.rows c (list_in t r)) ≡ pack_bell (bell_at q c l) = s.bells c (list_in t r) less low ∙ ap (λ (m : ℕ). pack_bell (bell_at q c m)) listed in
     let after_is : min (slice_index t.words (bell_of t.rows c (list_in t r))) (bell_word t r) ≡ pack_bell (bell_at (acted q h (acts.Bell r c)) c (list_in t r)) =
-      (λ j. min (before j) (word j)) ∙ word_earlier t q l new s of (bell_at q c l) (λ a e. s.rung c l a e) ∙ ap pack_bell (sym (bell_rung q h r c))
-      ∙ ap (λ (m : ℕ). pack_bell (bell_at (acted q h (acts.Bell r c)) c m)) (sym listed) in
-    (can, bell_kept t q h c (list_in t r) (min (slice_index t.words (bell_of t.rows c (list_in t r))) (bell_word t r)) s less low (acts.Bell r c) can refl
-    (λ d m away. bell_step q h (acts.Bell r c) d m (λ e f. away e (listed ∙ f))) after_is)
+    (λ j. min (before j) (word j)) ∙ word_earlier t q l new s of (bell_at q c l) (λ a e. s.rung c l a e) ∙ ap pack_bell (sym (bell_rung q h r c))
+    ∙ ap (λ (m : ℕ). pack_bell (bell_at (acted q h (acts.Bell r c)) c m)) (sym listed) in (
+      can,
+      bell_kept t q h c (list_in t r) (min (slice_index t.words (bell_of t.rows c (list_in t r))) (bell_word t r)) s less low (acts.Bell r c) can refl
+          (λ d m away. bell_step q h (acts.Bell r c) d m (λ e f. away e (listed ∙ f))) after_is,
+    )
 
 -- the bell of a consumer at a list is taken
 pub take_step : (t : Table) (q : Queue) (h c l : ℕ) → Stands t q → c < t.consumers → l < t.lists → Can q h (acts.Take c l) × Stands (changed_by t h (TakeBell c l)) (acted q h (acts.Take c l))

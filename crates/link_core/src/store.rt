@@ -8,8 +8,8 @@ ghost use Rattle.queue_model.specs.declared.queues.Reservation.{Reservation};
 ghost use Rattle.queue_model.specs.Table.{with_less, with_more};
 
 use crate::places::{
-    DEPTH, TOP, bell_place, count_place, draft_place, link_place, mark_place, node_word, state_place,
-    state_word, tail_place, word_place,
+    DEPTH, TOP, bell_place, count_place, draft_place, link_place, mark_place, node_word,
+    state_place, state_word, tail_place, word_place,
 };
 use crate::stepping::Unfit;
 use queue_model::{

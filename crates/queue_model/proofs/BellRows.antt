@@ -53,7 +53,7 @@ bells_ring_step q h (Take d m) can all c l b found = ⊎_elim
     (λ (me : d ≡ c). ⊎_elim
     (λ (here : m ≡ l).
     let gone : bell_at (acted q h (Take d m)) c l ≡ None =
-      subst (λ (k : ℕ). bell_at (acted q h (Take d m)) k l ≡ None) me (subst (λ (k : ℕ). bell_at (acted q h (Take d m)) d k ≡ None) here (bell_taken q h d m)) in
+    subst (λ (k : ℕ). bell_at (acted q h (Take d m)) k l ≡ None) me (subst (λ (k : ℕ). bell_at (acted q h (Take d m)) d k ≡ None) here (bell_taken q h d m)) in
     let bad : None ≡ Some b = sym gone ∙ found in absurd (cc))
     (λ (away : m ≢ l). left_of q h (Take d m) c l b all (bell_step q h (Take d m) c l (λ e. away)) found)
     (cases_eq m l))
