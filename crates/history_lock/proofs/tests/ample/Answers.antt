@@ -2,7 +2,7 @@ use Rattle.std.proofs.Common.{◌≡◌, ◌≢◌, inl, ◌<◌, ◌≤◌, ◌
 use Rattle.std.proofs.lemmas.Bool.{cond-false}
 use Rattle.history_lock.specs.declared.view.View.{View}
 use Rattle.history_lock.specs.Counting.{counting}
-use Rattle.history_lock.specs.Views.{Has}
+use Rattle.history_lock.specs.Views.{Has, Leads}
 use Rattle.history_lock.specs.Plays.{Live, Took, Owes, ForAll, given, opened}
 use Rattle.history_lock.proofs.tests.ample.Goals as goal
 
@@ -42,7 +42,7 @@ for_all v w n is t =
       (5, ap (λ (x : View ℕ ℕ). x.opening) t.view ∙ ap (λ (x : View ℕ ℕ). x.opening) is),
       refl,
       record {
-        boss = subst (Has 0) (sym callers) (inl refl);
+        boss = subst Leads (sym callers) refl;
         all = λ k l. subst (Has k) (sym callers) (inl (let m : k < 1 = subst (λ (z : ℕ). k < z) made l in omega arith));
       },
     )

@@ -1,0 +1,10 @@
+pub mod Wide
+pub mod Costs
+pub mod Ending
+pub mod Asking
+pub mod Turning
+pub mod Members
+pub mod Calling
+pub mod Opening
+pub mod Closing
+pub mod Parting
