@@ -64,7 +64,8 @@ fn index_row<C: Freight>(
 )
     requires inside { vec_len marks.old < length rows.now.rows }
     requires apart { OneOfKey rows.now }
-    requires keeps { KeepsLast (front rows.now (vec_len marks.old)) lasts.old.items marks.old.items }
+    requires keeps { KeepsLast (front rows.now (vec_len marks.old))
+        lasts.old.items marks.old.items }
     requires lasts_fit { length rows.now.rows ≤ vec_capacity lasts.old }
     requires marks_fit { length rows.now.rows ≤ vec_capacity marks.old }
     ensures long { vec_len marks.new ≡ vec_len marks.old + 1 }

@@ -28,7 +28,8 @@ impl<C: Freight> Model for LastValue<C> {
 
     ghost view = { λ q. q.rows };
 
-    ghost invariant = { λ q. KeepsLast q.rows q.lasts.items q.outdated.items × HasRoom q.rows (vec_capacity q.lasts) (vec_capacity q.outdated) };
+    ghost invariant = { λ q. KeepsLast q.rows q.lasts.items q.outdated.items
+        × HasRoom q.rows (vec_capacity q.lasts) (vec_capacity q.outdated) };
 }
 
 impl<C: Freight> LastValue<C> {

@@ -25,9 +25,11 @@ fn place_of<C: Freight>(
     lasts: &[u64],
     key: &Option<Bytes>,
 ) -> Place
-    requires inside { (i : ℕ) → i < length lasts.now → slice_index lasts.now i < length rows.now.rows }
+    requires inside { (i : ℕ) → i < length lasts.now
+        → slice_index lasts.now i < length rows.now.rows }
     requires sorted { (i j : ℕ) → i < j → j < length lasts.now
-        → KeyBefore (key_at rows.now (slice_index lasts.now i)) (key_at rows.now (slice_index lasts.now j)) }
+        → KeyBefore (key_at rows.now (slice_index lasts.now i))
+        (key_at rows.now (slice_index lasts.now j)) }
     ensures { IsPlace rows.now lasts.now key.now result }
 {
     let mut low = 0;
@@ -49,9 +51,11 @@ pub(crate) fn key_place<C: Freight>(
     lasts: &[u64],
     key: &Option<Bytes>,
 ) -> Option<Place>
-    requires inside { (i : ℕ) → i < length lasts.now → slice_index lasts.now i < length rows.now.rows }
+    requires inside { (i : ℕ) → i < length lasts.now
+        → slice_index lasts.now i < length rows.now.rows }
     requires sorted { (i j : ℕ) → i < j → j < length lasts.now
-        → KeyBefore (key_at rows.now (slice_index lasts.now i)) (key_at rows.now (slice_index lasts.now j)) }
+        → KeyBefore (key_at rows.now (slice_index lasts.now i))
+        (key_at rows.now (slice_index lasts.now j)) }
     ensures some { IfSome result (λ p. (key.now ≢ None) × IsPlace rows.now lasts.now key.now p) }
     ensures none { IfNone result (key.now ≡ None) }
 {
