@@ -137,9 +137,12 @@ impl<D: Disk> Journal<D> {
         }
     }
 
-    /// Whether no append failed since the last repair.
+    /// Whether no append failed since the last repair. Whatever it answers, each image stands for the journal's
+    /// commits.
     pub fn is_clean(&self) -> bool
-        ensures { IsTrue result ↔ (self.now.trust ≡ Clean) }
+        ensures clean { IsTrue result ↔ (self.now.trust ≡ Clean) }
+        ensures stands { (C A : List Listed) ×
+            Stands (D.images self.now.disk) self.now.gate self.now.trust C A }
     {
         self.trust == Trust::Clean
     }
@@ -211,6 +214,7 @@ impl<D: Disk> Journal<D> {
         ensures cause { HasCause (D.faults self.old.disk) (D.faults self.new.disk) result }
         ensures syncs { (D.syncs self.old.disk ≤ D.syncs self.new.disk)
             × (D.syncs self.new.disk ≤ D.syncs self.old.disk + 3) }
+        ensures quick { self.old.trust ≡ Clean → D.syncs self.new.disk ≤ D.syncs self.old.disk + 2 }
         ensures room { scratch.old.room ≤ scratch.new.room }
     {
         match self.repair_if_due() {
@@ -236,6 +240,7 @@ impl<D: Disk> Journal<D> {
         ensures cause { HasCause (D.faults self.old.disk) (D.faults self.new.disk) result }
         ensures syncs { (D.syncs self.old.disk ≤ D.syncs self.new.disk)
             × (D.syncs self.new.disk ≤ D.syncs self.old.disk + 1) }
+        ensures rest { self.old.trust ≡ Clean → D.syncs self.new.disk ≡ D.syncs self.old.disk }
     {
         match self.trust {
             Trust::Clean => Ok(()),
