@@ -10,4 +10,6 @@ pub use kinds::{AnyPass, AnyQueue};
 #[cfg(test)]
 mod shared_tests;
 #[cfg(test)]
+mod stress_tests;
+#[cfg(test)]
 mod tests;

@@ -9,7 +9,7 @@ ghost use Rattle.defs_read.specs.declared.defs.QueueKind.TheVariants as kinds;
 use crate::tests::Empty;
 use crate::{AnyPass, AnyQueue};
 use acts_core::clients::{put_in, take_out};
-use acts_core::{Locking, Next, Releasing, SharedQueue, Stealing};
+use acts_core::{Locking, Next, Placed, Releasing, SharedQueue, Stealing};
 use byte_lists::Bytes;
 use defs_read::{ConsumerDef, QueueDef, QueueKind};
 use queue_model::Slip;
@@ -18,21 +18,21 @@ use std::test::Fail;
 use std::thread::{Threads, join};
 
 /// How many entries each of two threads puts.
-const PUTS: u64 = 16;
+pub(crate) const PUTS: u64 = 16;
 
 /// How often each of two threads tries to take one.
 const TRIES: u64 = 40;
 
 /// A pass, and what was taken by it: how many entries, and the sum of 2^id of them.
 #[derive(Drop)]
-struct Taken {
-    pass: AnyPass,
-    count: u64,
-    bits: u64,
+pub(crate) struct Taken {
+    pub(crate) pass: AnyPass,
+    pub(crate) count: u64,
+    pub(crate) bits: u64,
 }
 
 /// A standard queue of two consumers.
-fn standard(alloc: Global) -> Result<QueueDef, AllocError>
+pub(crate) fn standard(alloc: Global) -> Result<QueueDef, AllocError>
     ensures { IfOk result (λ d. (d.kind ≡ kinds.Standard) × (vec_len d.consumers ≡ 2)) }
 {
     let first = consumer(alloc, 0);
@@ -70,7 +70,8 @@ fn wanted(id: u64) -> (Slip, Empty)
     (slip, Empty { id })
 }
 
-fn put_one(queue: &AnyQueue<Empty>, pass: &mut AnyPass, id: u64)
+/// Puts an entry of this id, in place of a reserved one.
+pub(crate) fn put_one(queue: &AnyQueue<Empty>, pass: &mut AnyPass, id: u64) -> Placed<Empty>
     requires serves { ServesAny queue.now pass.old }
     requires allowed { 0 < (sight_in pass.old).allowance }
     requires lists { (sight_in pass.old).opening.lists ≡ 1 }
@@ -80,11 +81,11 @@ fn put_one(queue: &AnyQueue<Empty>, pass: &mut AnyPass, id: u64)
     ensures opening { (sight_in pass.new).opening ≡ (sight_in pass.old).opening }
 {
     let (slip, cargo) = wanted(id);
-    put_in(queue, pass, slip, cargo);
+    put_in(queue, pass, slip, cargo)
 }
 
 /// Puts entries of the ids from this one on.
-fn put_all(queue: &AnyQueue<Empty>, pass: AnyPass, first: u64) -> AnyPass
+pub(crate) fn put_all(queue: &AnyQueue<Empty>, pass: AnyPass, first: u64) -> AnyPass
     requires serves { ServesAny queue.now pass }
     requires allowed { PUTS ≤ (sight_in pass).allowance }
     requires lists { (sight_in pass).opening.lists ≡ 1 }
@@ -129,9 +130,10 @@ fn take_all(queue: &AnyQueue<Empty>, pass: AnyPass, consumer: u32) -> Taken
 }
 
 /// Takes the oldest entry out.
-fn oldest_out(queue: &AnyQueue<Empty>, pass: &mut AnyPass) -> Option<u64>
+pub(crate) fn oldest_out(queue: &AnyQueue<Empty>, pass: &mut AnyPass) -> Option<u64>
     requires serves { ServesAny queue.now pass.old }
     ensures serves { ServesAny queue.now pass.new }
+    ensures opening { (sight_in pass.new).opening ≡ (sight_in pass.old).opening }
 {
     match queue.oldest(pass) {
         Next::Got { row, cargo } => {
@@ -160,12 +162,13 @@ fn left(queue: &AnyQueue<Empty>, pass: &mut AnyPass) -> (u64, u64)
     (count, bits)
 }
 
-/// Two threads put.
-fn both_put<R: Threads + Sync>(
+/// Two threads put, entries of the ids from this one on.
+pub(crate) fn both_put<R: Threads + Sync>(
     rt: &R,
     queue: &AnyQueue<Empty>,
     one: AnyPass,
     two: AnyPass,
+    first: u64,
 ) -> (AnyPass, AnyPass)
     requires serves { ServesAny queue.now one × ServesAny queue.now two }
     requires allowed { (PUTS ≤ (sight_in one).allowance) × (PUTS ≤ (sight_in two).allowance) }
@@ -176,7 +179,12 @@ fn both_put<R: Threads + Sync>(
     ensures one { (sight_in result.0).opening ≡ (sight_in one).opening }
     ensures two { (sight_in result.1).opening ≡ (sight_in two).opening }
 {
-    join(rt, || put_all(queue, one, 0), || put_all(queue, two, PUTS))
+    let second = first.wrapping_add(PUTS);
+    join(
+        rt,
+        || put_all(queue, one, first),
+        || put_all(queue, two, second),
+    )
 }
 
 /// Two threads take.
@@ -197,7 +205,7 @@ fn both_take<R: Threads + Sync>(
 }
 
 /// The pass of a thread that puts.
-fn putter(queue: &AnyQueue<Empty>, boss: &mut AnyPass) -> AnyPass
+pub(crate) fn putter(queue: &AnyQueue<Empty>, boss: &mut AnyPass) -> AnyPass
     requires serves { ServesAny queue.now boss.old }
     requires may { MayPart (sight_in boss.old) [] PUTS }
     requires lists { (sight_in boss.old).opening.lists ≡ 1 }
@@ -242,7 +250,7 @@ fn two_threads_take_what_two_put(rt: HostRuntime) -> Result<(), Fail> {
     let shared = &queue;
     let ((one, two), (three, four)) = join(
         &rt,
-        || both_put(&rt, shared, one, two),
+        || both_put(&rt, shared, one, two, 0),
         || both_take(&rt, shared, three, four),
     );
     let (more, sum) = (three.count, three.bits);
@@ -259,11 +267,12 @@ fn two_threads_take_what_two_put(rt: HostRuntime) -> Result<(), Fail> {
 }
 
 /// Holds the oldest entry and leaves it; answers its row.
-fn hold_and_leave(queue: &AnyQueue<Empty>, pass: &mut AnyPass) -> Option<u64>
+pub(crate) fn hold_and_leave(queue: &AnyQueue<Empty>, pass: &mut AnyPass) -> Option<u64>
     requires serves { ServesAny queue.now pass.old }
     ensures serves { ServesAny queue.now pass.new }
     ensures left { IfSome result (λ row.
         HasLeft (sight_in pass.new).caller row (sight_in pass.new).seen) }
+    ensures opening { (sight_in pass.new).opening ≡ (sight_in pass.old).opening }
 {
     match queue.oldest(pass) {
         Next::Got { row, cargo } => {
@@ -275,9 +284,10 @@ fn hold_and_leave(queue: &AnyQueue<Empty>, pass: &mut AnyPass) -> Option<u64>
 }
 
 /// Steals the entry of this id, where there is one, and takes it out; answers whether somebody had left it.
-fn steal_out(queue: &AnyQueue<Empty>, pass: &mut AnyPass, id: u64) -> Option<bool>
+pub(crate) fn steal_out(queue: &AnyQueue<Empty>, pass: &mut AnyPass, id: u64) -> Option<bool>
     requires serves { ServesAny queue.now pass.old }
     ensures serves { ServesAny queue.now pass.new }
+    ensures opening { (sight_in pass.new).opening ≡ (sight_in pass.old).opening }
 {
     let Some(row) = queue.find(pass, id) else {
         return None;
@@ -293,10 +303,11 @@ fn steal_out(queue: &AnyQueue<Empty>, pass: &mut AnyPass, id: u64) -> Option<boo
 }
 
 /// Locks a row again that the caller had left, and gives it back; answers whether it was still the caller's.
-fn lock_again(queue: &AnyQueue<Empty>, pass: &mut AnyPass, row: u64) -> bool
+pub(crate) fn lock_again(queue: &AnyQueue<Empty>, pass: &mut AnyPass, row: u64) -> bool
     requires serves { ServesAny queue.now pass.old }
     requires left { HasLeft (sight_in pass.old).caller row (sight_in pass.old).seen }
     ensures serves { ServesAny queue.now pass.new }
+    ensures opening { (sight_in pass.new).opening ≡ (sight_in pass.old).opening }
 {
     match queue.lock(pass, row) {
         Locking::Locked(cargo) => { matches!(queue.release(pass, row, cargo), Releasing::Released) }

@@ -1,7 +1,6 @@
-use Rattle.std.proofs.Common.{◌≡◌, ◌<◌, ℕ, refl, sym, ◌∙◌, arith}
+use Rattle.std.proofs.Common.{refl, sym, ◌∙◌, arith}
 use Rattle.queue_model.specs.declared.deeds.Act.TheVariants.{Reserve}
-use Rattle.queue_model.specs.declared.queues.Queue.{Queue}
-use Rattle.queue_model.specs.Table.{Can, acted}
+use Rattle.queue_model.specs.Table.{acted}
 use Rattle.kept_rows.proofs.Handing.{can_put, can_reserve}
 use Rattle.sorted_core.proofs.tests.put.Goals as goal
 

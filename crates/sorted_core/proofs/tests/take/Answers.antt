@@ -1,4 +1,4 @@
-use Rattle.std.proofs.Common.{◌≡◌, ◌<◌, ℕ, arith}
+use Rattle.std.proofs.Common.{◌<◌, arith}
 use Rattle.kept_rows.proofs.Handing.{acquired_hand, hand_stays}
 use Rattle.sorted_core.proofs.tests.take.Goals as goal
 
