@@ -1,3 +1,4 @@
 pub mod Acquiring
 pub mod Getting
 pub mod Calling
+pub mod Runs

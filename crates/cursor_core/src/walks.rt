@@ -1,4 +1,5 @@
-//! Walks of one list from its head, to the first row that is acquired.
+//! Walks of one list from its head, to the first row that is acquired. Deleted rows are stepped over, and the links are
+//! moved on past them.
 ghost use Rattle.std.specs.Prelude.{◌<◌};
 ghost use Rattle.entry_table.specs.Passes.{IsPassOf, Kept};
 ghost use Rattle.entry_table.specs.Sights.{sight};
@@ -7,6 +8,7 @@ ghost use Rattle.cursor_core.specs.Takes.{WalksFree, WalksReady};
 use crate::takes::{take_free, take_ready};
 use acts_core::Freight;
 use entry_table::{Entries, Pass};
+use scavenge_core::step_behind;
 
 /// Acquires the first row of a list that is free to the consumer when looked at.
 pub(crate) fn walk_free<C: Freight>(
@@ -20,12 +22,12 @@ pub(crate) fn walk_free<C: Freight>(
     ensures kept { Kept pass.old pass.new }
     ensures walks { WalksFree C.goods (sight pass.old) (sight pass.new) consumer list result }
 {
-    let mut next = entries.follow(pass, list, 0);
+    let mut next = step_behind(entries, pass, list, 0);
     'rows: while let Some(row) = next {
         if let Some(cargo) = take_free(entries, pass, consumer, row) {
             return Some((row, cargo));
         }
-        next = entries.follow(pass, list, row + 1);
+        next = step_behind(entries, pass, list, row + 1);
     }
     None
 }
@@ -41,12 +43,12 @@ pub(crate) fn walk_ready<C: Freight>(
     ensures kept { Kept pass.old pass.new }
     ensures walks { WalksReady C.goods (sight pass.old) (sight pass.new) list result }
 {
-    let mut next = entries.follow(pass, list, 0);
+    let mut next = step_behind(entries, pass, list, 0);
     'rows: while let Some(row) = next {
         if let Some(cargo) = take_ready(entries, pass, row) {
             return Some((row, cargo));
         }
-        next = entries.follow(pass, list, row + 1);
+        next = step_behind(entries, pass, list, row + 1);
     }
     None
 }
