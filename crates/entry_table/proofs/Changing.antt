@@ -312,7 +312,7 @@ module _ {C : Type 0} (load : C → Load) (shape : Shape) where
       (λ j z. let same : row ≡ j = (let o : Some row ≡ Some j = z in cc) in inr (h', has_me load shape s id v h ended is at r, subst (λ (b : ℕ). IsIn (acted q' h' a') b (Locked h')) same (held_out q' h' 0 change row out step.0)))
       (away_more s.homes r.outs s.views id row v w at idle refl r.away) in
       (w, takes row (Some full.0), full.1, (v.opening, p.0), (full.0, y.0, full.2, refl, record { went = p.1; before = r.history; prefix = (knows_me load shape s id v h ended is at r).prefix; found = y.1; state = y.2; view = refl })))
-      (λ e. miss_owes load shape s id (state_of row) (steps.State row change from) m h ended refl is at r)
+      (λ e. miss_owes load shape s id (state_of row) (steps.State row change from) m h ended (λ ws. refl) is at r)
 
   -- Unlock and Rel, by the holder, with the cargo in its slot
   pub frees_allowed : (slots id row count : ℕ) (change : Change) (m : Me (Option C) View) (h : ℕ) (ended : List ℕ) (x : Row) (c : C) → m.0.callers ≡ h ∷ ended → m.0.slot ≡ Some row → m.1 ≡ (row, Some c) ∷ [] → IsHome change
@@ -394,4 +394,4 @@ module _ {C : Type 0} (load : C → Load) (shape : Shape) where
       (λ j z. let o : None ≡ Some j = z in absurd (cc))
       (λ j z. away_set s.views id v w (r.outs j) j at (sym idle) (r.away j z)) in
       (w, keeps, tt, (v.opening, p.0), (y.0, refl, record { went = p.1; before = r.history; prefix = (knows_me load shape s id v h ended' is at r).prefix; found = y.1; state = y.2; view = refl })))
-      (λ e. miss_owes load shape s id (state_of row) (steps.State row change from) m h ended' refl is at r)
+      (λ e. miss_owes load shape s id (state_of row) (steps.State row change from) m h ended' (λ ws. refl) is at r)

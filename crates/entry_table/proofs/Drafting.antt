@@ -120,7 +120,7 @@ module _ {C : Type 0} (load : C → Load) (shape : Shape) where
       (λ u e told. ((λ hit. told), (λ ne. absurd (ne e))))
       (λ u e told. ((λ hit. absurd (e hit)), (λ ne. told)))
       (λ e. subst (λ (k : ℕ). Owes load shape s id m 0 k (drew n m)) (ap (λ (k : ℕ). k + 1) e) (drew_owes s id m h ended is idle room at r))
-      (λ e. miss_owes load shape s id 0 steps.Draw m h ended refl is at r)
+      (λ e. miss_owes load shape s id 0 steps.Draw m h ended (λ ws. refl) is at r)
 
 -- a draft word after a store of one
 word_stored : (r : ℕ) (w y : DraftWord) (n : ℕ) (d : Drawing) → ((draft_of r y ≡ draft_of r w) × (word_in (with_word w n d) y ≡ n)) ⊎ ((draft_of r y ≢ draft_of r w) × (word_in (with_word w n d) y ≡ word_in d y))

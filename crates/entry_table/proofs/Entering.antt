@@ -247,7 +247,7 @@ module _ {C : Type 0} (load : C → Load) (shape : Shape) where
       (λ u e told. ((λ hit. absurd (e hit)), (λ ne. told)))
       (λ e. let p = linked_rule s id v h ended is at r row d node c drawing out l same_id same_size e in
       (w, gives, tt, (v.opening, subst (λ (k : List (ℕ × Option C)). RuledAt load shape v.opening record { words = set s.words i (suc row); homes = put_back s.homes k; views = set s.views id w }) (sym carried) p.0), (refl, p.1)))
-      (λ e. miss_owes load shape s id i (steps.Link row node) m h ended refl is at r)
+      (λ e. miss_owes load shape s id i (steps.Link row node) m h ended (λ ws. refl) is at r)
 
   abbrev slot_of : C → List (ℕ × Option C) → Option C
   slot_of c [] = Some c

@@ -22,6 +22,8 @@ use Rattle.link_core.specs.Layout.{row_link_of, head_of}
 use Rattle.link_core.specs.Stands.{Points, Chain, Stands}
 use Rattle.link_core.specs.Steps.{shown as word_shown}
 use Rattle.link_core.specs.Table.{Table}
+use Rattle.link_core.proofs.Fewer as fewer
+use Rattle.link_core.proofs.Fewer.{position_in}
 use Rattle.link_core.proofs.InLists.{found_there, row_of_list}
 use Rattle.link_core.proofs.Leading.{chain_points, row_points}
 use Rattle.acts_core.specs.Walks.{node_at, reach, IsOfList, IsStop, AreDeleted, Follows, FollowsTo}
@@ -33,7 +35,6 @@ use Rattle.entry_table.specs.Passes.{Kept, Did, view, opening, seen, shown, allo
 use Rattle.entry_table.specs.Plays.{Within, Shows}
 use Rattle.entry_table.specs.Sights.{sight}
 use Rattle.entry_table.specs.Views.{entry}
-use Rattle.entry_table.proofs.Counting.{few_rows}
 use Rattle.entry_table.proofs.Sighting.{stepped, same_rights}
 
 -- Places in lists
@@ -49,13 +50,6 @@ module _ {X : Type 0} where
   position-behind p (x ∷ xs) ys e =
       let rest = position-behind p xs ys (find_none-tail p x xs e) in
       position-past p x (xs ++ ys) (find_none-head p x xs e) ∙ omega (arith, rest)
-
-  pub position_in : (p : X → Bool) (xs : List X) (y : X) → find p xs ≡ Some y → position_or_len p xs < length xs
-  position_in p [] y e = absurd (cc)
-  position_in p (x ∷ xs) y e = ⊎_elim
-      (λ (hit : p x ≡ true). omega (arith, position-here p x xs hit))
-      (λ (miss : p x ≡ false). let t = position_in p xs y (sym (find-past p x xs miss) ∙ e) in omega (arith, t, position-past p x xs miss))
-      (cases_Bool (p x))
 
   -- what is found splits its list
   pub record Split (p : X → Bool) (xs : List X) (x : X) : Type 0 where
@@ -211,18 +205,7 @@ row_node l (suc r) some = ap (λ (n : ℕ). nodes.Row n) (let e : r ≡ suc r - 
 
 -- the place of a row is below the number of rows
 pub place_low : (shape : Shape) (q : Queue) (r : ℕ) (x : Row) → Within shape q → row_at q r ≡ Some x → place_at q r < shape.rows
-place_low shape q r x w found =
-    let t = found_there q x.slip.list r x found refl in
-    let within = position_in (is_row r) (rows_of q x.slip.list) x t.0 in
-    let few = few_rows shape q w in
-    let part = filter_short (is_of_list x.slip.list) q.rows in
-    omega (arith, t.1, within, few, part)
-  where
-    filter_short : (p : Row → Bool) (xs : List Row) → length (filter p xs) ≤ length xs
-    filter_short p [] = omega arith
-    filter_short p (y ∷ ys) =
-        let rest = filter_short p ys in
-        elim (p y) as (λ b. length (cond b (y ∷ filter p ys) (filter p ys)) ≤ suc (length ys)) [ true ↦ omega (arith, rest) | false ↦ omega (arith, rest) ]
+place_low shape q r x w found = fewer.place_low shape.rows q r x w.sound.rows_apart w.low found
 
 -- a stop of a list is one later
 pub stop_later : (o : Queue) (ds es : List Deed) (l w : ℕ) → IsPrefix ds es → IsStop (after o ds) l w → IsStop (after o es) l w

@@ -17,7 +17,7 @@ use Rattle.queue_model.proofs.Stable.{row_stays, place_stays, deleted_stays}
 use Rattle.link_core.proofs.InLists.{found_there, row_of_list}
 use Rattle.link_core.proofs.Skipping.{find_behind, place_behind_first}
 use Rattle.acts_core.specs.Walks.{AreDeleted}
-use Rattle.entry_table.proofs.Following.{position_in}
+use Rattle.link_core.proofs.Fewer.{position_in}
 
 -- at each place there is a row
 row_placed : (rows : List Row) (i : ℕ) → Apart same_number rows → i < length rows → (z : Row) × (find (is_row z.number) rows ≡ Some z) × (position_or_len (is_row z.number) rows ≡ i)

@@ -21,7 +21,8 @@ use Rattle.entry_table.specs.Rule.{table_at, Lies, Cargoes}
 use Rattle.entry_table.specs.Resting.{is_live, live, rests, Legible, Waits, AllWait, Settled, Rested, AreGathered}
 use Rattle.acts_core.specs.declared.cargoes.RestEntry.{RestEntry}
 use Rattle.entry_table.proofs.Closing.{less_at, all_found, of_list}
-use Rattle.entry_table.proofs.Counting.{few, few_rows}
+use Rattle.link_core.proofs.Fewer.{few}
+use Rattle.entry_table.proofs.Counting.{few_rows}
 use Rattle.std.specs.Prelude.{slice_index}
 use Rattle.atomic_table.specs.Table.{Final, Seen}
 use Rattle.queue_model.specs.declared.deeds.Deed.{Deed}

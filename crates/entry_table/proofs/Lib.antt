@@ -32,5 +32,6 @@ pub mod Following
 pub mod Lasting
 pub mod Skipped
 pub mod Marked
+pub mod Belled
 pub mod Later
 pub mod Serving

@@ -98,6 +98,8 @@ module _ {C : Type 0} (load : C → Load) (shape : Shape) where
   reached_low (steps.Load (names.Draft r w)) v t low = (omega arith, low)
   reached_low (steps.State r change from) v t low = (omega arith, low)
   reached_low (steps.Unlink at from to) v t low = (omega arith, low)
+  reached_low (steps.Ring c r) v t low = (omega arith, low)
+  reached_low (steps.TakeBell c l) v t low = (omega arith, low)
   reached_low (steps.Mark l n) v t low = (omega arith, low)
   reached_low (steps.Count l) v t low = (omega arith, low)
   reached_low (steps.Reset l) v t low = (omega arith, low)
@@ -109,13 +111,13 @@ module _ {C : Type 0} (load : C → Load) (shape : Shape) where
   Owes s id me i n tells = (w : View) × (a : TableAct (Option C)) × Valid s.homes me.1 a × Ruled load shape (stepped s i n id me.1 w a) × tells (w, carried_after me.1 a)
 
   -- a step that leaves its word as it found it
-  pub miss_owes : (s : State (Option C) View) (id i : ℕ) (step : Step) (me : Me (Option C) View) (h : ℕ) (ended : List ℕ) → i ≡ place_of_step shape.rows step → me.0.callers ≡ h ∷ ended → get_elem? s.views id ≡ maybe.some me.0 → RuledAt load shape me.0.opening s
+  pub miss_owes : (s : State (Option C) View) (id i : ℕ) (step : Step) (me : Me (Option C) View) (h : ℕ) (ended : List ℕ) → ((ws : List ℕ) → i ≡ place_of_step shape.rows ws step) → me.0.callers ≡ h ∷ ended → get_elem? s.views id ≡ maybe.some me.0 → RuledAt load shape me.0.opening s
       → Owes s id me i (slice_index s.words i) (looked step me (slice_index s.words i))
   miss_owes s id i step me h ended place is at r =
       let all : r.history ≡ r.history ++ [] = sym (append-nil r.history) in
       let t : Table = table_at shape s.words r.drawer r.reserved in
       let n : ℕ = slice_index s.words i in
-      let shows : shown t step ≡ n = ap (slice_index s.words) (sym place) in
+      let shows : shown t step ≡ n = ap (slice_index s.words) (sym (place s.words)) in
       let reached : (me.0.reached ≤ reached_by step n me.0.reached) × (reached_by step n me.0.reached ≤ slice_index s.words 0) = subst (λ (k : ℕ). (me.0.reached ≤ reached_by step k me.0.reached) × (reached_by step k me.0.reached ≤ slice_index s.words 0)) shows (reached_low step me.0 t (r.reaches id me.0 at)) in (
         looked_view me.0 step n r.history,
         keeps,
@@ -134,6 +136,6 @@ module _ {C : Type 0} (load : C → Load) (shape : Shape) where
       (λ e. let o = owes_miss e in (o.0, o.1, o.2, o.3, told_miss (o.0, carried_after me.1 o.1) e o.4))
 
   -- a load of any word
-  pub looks_allowed : (slots id i : ℕ) (step : Step) (me : Me (Option C) View) (h : ℕ) (ended : List ℕ) → i ≡ place_of_step shape.rows step → me.0.callers ≡ h ∷ ended
+  pub looks_allowed : (slots id i : ℕ) (step : Step) (me : Me (Option C) View) (h : ℕ) (ended : List ℕ) → ((ws : List ℕ) → i ≡ place_of_step shape.rows ws step) → me.0.callers ≡ h ∷ ended
       → Allows (Ruled load shape) slots id me i (λ n. n) (looked step me)
   looks_allowed slots id i step me h ended place is s ruled len at low = miss_owes s id i step me h ended place is at (opened load shape s id me.0 h ended is at ruled)

@@ -119,6 +119,7 @@ module _ {C : Type 0} (load : C → Load) (shape : Shape) where
             tails = s.tails;
             marks = s.marks;
             bells = s.bells;
+            rung = s.rung;
             depth = s.depth;
             draws = s.draws;
             reserved = s.reserved;

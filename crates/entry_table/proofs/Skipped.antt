@@ -95,7 +95,7 @@ module _ {C : Type 0} (load : C → Load) (shape : Shape) where
         (has_node node there, λ k named. let y = link_row tab q node k r.stands (known_now node there) named in (k, named, onward_self q k y.0 y.1))
 
     -- a step that shows the link of a node, and leaves it
-    pub watch_owes : (node : Node) (step : Step) (carried : List (ℕ × Option C)) → IsKnown known node → place_of_step shape.rows step ≡ link_of shape.rows node
+    pub watch_owes : (node : Node) (step : Step) (carried : List (ℕ × Option C)) → IsKnown known node → place_of_step shape.rows s.words step ≡ link_of shape.rows node
         → Owes load shape s id (v, carried) (link_of shape.rows node) (slice_index s.words (link_of shape.rows node)) (watching node step (v, carried) (slice_index s.words (link_of shape.rows node)))
     watch_owes node step carried there place =
         let i : ℕ = link_of shape.rows node in

@@ -214,14 +214,14 @@ module _ {C : Type 0} (load : C → Load) (shape : Shape) where
         })
 
   -- a load that takes the slot of a row that the pass drew or holds
-  pub fetches_allowed : (slots id i row : ℕ) (step : Step) (m : Me (Option C) View) (h : ℕ) (ended : List ℕ) → i ≡ place_of_step shape.rows step → m.0.callers ≡ h ∷ ended → m.0.slot ≡ None → Mine (after m.0.opening m.0.seen) m.0 row
+  pub fetches_allowed : (slots id i row : ℕ) (step : Step) (m : Me (Option C) View) (h : ℕ) (ended : List ℕ) → ((ws : List ℕ) → i ≡ place_of_step shape.rows ws step) → m.0.callers ≡ h ∷ ended → m.0.slot ≡ None → Mine (after m.0.opening m.0.seen) m.0 row
       → Allows (Ruled load shape) slots id m i (λ n. n) (fetched row step m)
   fetches_allowed slots id i row step m h ended place is idle mine s ruled len at low =
       let v : View = m.0 in
       let r = opened load shape s id v h ended is at ruled in
       let n : ℕ = slice_index s.words i in
       let t : Table = table_at shape s.words r.drawer r.reserved in
-      let shows : shown t step ≡ n = ap (slice_index s.words) (sym place) in
+      let shows : shown t step ≡ n = ap (slice_index s.words) (sym (place s.words)) in
       let reached : (v.reached ≤ reached_by step n v.reached) × (reached_by step n v.reached ≤ slice_index s.words 0) = subst (λ (k : ℕ). (v.reached ≤ reached_by step k v.reached) × (reached_by step k v.reached ≤ slice_index s.words 0)) shows (reached_low load shape step v t (r.reaches id v at)) in
       let mine' = mine_now s id v h ended is at r row mine in
       let home = slot_home s id v h ended is at r row idle mine' in
@@ -243,14 +243,14 @@ module _ {C : Type 0} (load : C → Load) (shape : Shape) where
       )
 
   -- a load that gives the slot back, empty
-  pub gives_allowed : (slots id i row : ℕ) (step : Step) (m : Me (Option C) View) (h : ℕ) (ended : List ℕ) → i ≡ place_of_step shape.rows step → m.0.callers ≡ h ∷ ended → m.0.slot ≡ Some row → m.1 ≡ (row, None) ∷ [] → Mine (after m.0.opening m.0.seen) m.0 row
+  pub gives_allowed : (slots id i row : ℕ) (step : Step) (m : Me (Option C) View) (h : ℕ) (ended : List ℕ) → ((ws : List ℕ) → i ≡ place_of_step shape.rows ws step) → m.0.callers ≡ h ∷ ended → m.0.slot ≡ Some row → m.1 ≡ (row, None) ∷ [] → Mine (after m.0.opening m.0.seen) m.0 row
       → Allows (Ruled load shape) slots id m i (λ n. n) (given step m)
   gives_allowed slots id i row step m h ended place is out carried mine s ruled len at low =
       let v : View = m.0 in
       let r = opened load shape s id v h ended is at ruled in
       let n : ℕ = slice_index s.words i in
       let t : Table = table_at shape s.words r.drawer r.reserved in
-      let shows : shown t step ≡ n = ap (slice_index s.words) (sym place) in
+      let shows : shown t step ≡ n = ap (slice_index s.words) (sym (place s.words)) in
       let reached : (v.reached ≤ reached_by step n v.reached) × (reached_by step n v.reached ≤ slice_index s.words 0) = subst (λ (k : ℕ). (v.reached ≤ reached_by step k v.reached) × (reached_by step k v.reached ≤ slice_index s.words 0)) shows (reached_low load shape step v t (r.reaches id v at)) in
       let mine' = mine_now s id v h ended is at r row mine in
       let less = mine_less s id v h ended is at r row mine' in

@@ -89,7 +89,7 @@ module _ {C : Type 0} (load : C → Load) (shape : Shape) where
         ),
         (refl, went load shape s id v h ended is at r w [] words r.drawer reserved all tt refl (λ j ne. refl) stands (omega arith) (omega (arith, reached, top)), refl),
       ))
-      (λ e. miss_owes load shape s id i step m h ended refl is at r)
+      (λ e. miss_owes load shape s id i step m h ended (λ ws. refl) is at r)
 
   pub helps_allowed : (slots id l : ℕ) (from to : Node) (m : Me (Option C) View) (h : ℕ) (ended : List ℕ) → m.0.callers ≡ h ∷ ended → m.0.slot ≡ None → HelpableTo (after m.0.opening m.0.seen) l from to
       → Allows (Ruled load shape) slots id m (tail_of shape.rows l) (λ n. either (eqb n (pack_node from)) (pack_node to) n) (helped l from to m)

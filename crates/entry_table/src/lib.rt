@@ -3,6 +3,7 @@
 //! what rule holds between any two steps.
 #![tactic(auto)]
 
+mod bells;
 mod carried;
 mod changes;
 mod depths;

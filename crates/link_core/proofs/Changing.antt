@@ -13,7 +13,7 @@ use Rattle.queue_model.specs.declared.steps.Change.TheVariants.{Acq, Lock, Unloc
 use Rattle.queue_model.specs.declared.steps.Step.TheVariants.{State}
 use Rattle.queue_model.specs.Laws.{SameGoods}
 use Rattle.queue_model.specs.Sound.{Sound}
-use Rattle.queue_model.specs.State.{row_at, IsIn, place_at, size_at, reserved_by}
+use Rattle.queue_model.specs.State.{row_at, IsIn, place_at, size_at, reserved_by, BellsRing}
 use Rattle.queue_model.specs.Table.{Can, in_state, left_in, changed, acted, with_more}
 use Rattle.queue_model.proofs.Depths.{SameDepth, depth_kept, size_found}
 use Rattle.queue_model.proofs.Owns.{own_dequeue_reserves}
@@ -93,6 +93,13 @@ module _ (q : Queue) (r : ℕ) (f : Row → Row) (x : Row) (kept : (z : Row) →
         unlinked = λ s lt none. let before = none_before q r s f x kept found none in set_else words (state_of r) v (row_link_of s) (omega arith) ∙ draws.unlinked s lt before.1;
       }
 
+  -- a bell of a row still is of it
+  rung_after : (reserved : List Reservation) → BellsRing q → BellsRing (left q r f reserved)
+  rung_after reserved rung c l b e =
+      let of = rung c l b e in
+      let y = row_after q r b.row f of.rung kept of.found in
+      record { rung = y.0; found = y.1; list = ap (λ (z : Slip). z.list) y.2 ∙ of.list; place = of.place ∙ sym (place_after q r b.row f of.rung kept of.found) }
+
   -- all of it, with the reservations afterwards
   state_kept : (t : Table) (h : ℕ) (change : Change) (from : RowState) (reserved : List Reservation) → Stands t q → (f x).state ≡ goes_to h change → x.state ≢ Deleted
       → Sound (left q r f reserved) → SameDepth (left q r f reserved) q
@@ -112,6 +119,7 @@ module _ (q : Queue) (r : ℕ) (f : Row → Row) (x : Row) (kept : (z : Row) →
         tails = tails_after t.rows t.lists (slice_set t.words (state_of r) v) (tails_else t.rows t.words (state_of r) v t.lists q (λ l lt. omega arith) s.tails);
         marks = marks_after t.rows t.lists (slice_set t.words (state_of r) v) (marks_else t.rows t.words (state_of r) v t.lists q (λ l lt. omega arith) s.marks);
         bells = bells_else t.rows t.words (state_of r) v t.consumers t.lists q (λ c l less lt. omega arith) s.bells;
+        rung = rung_after reserved s.rung;
         depth = depth_else t.rows t.words (state_of r) v q (omega arith) s.depth ∙ ap₂ pack_depth (sym same.0) (sym same.1);
         draws = draws_after t.rows v t.words t.drawer s.draws;
         reserved = reserves;

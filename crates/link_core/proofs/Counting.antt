@@ -18,6 +18,7 @@ callers_kept t q n s = record {
   tails = tails_else t.rows t.words CALLERS n t.lists q (λ l lt. omega arith) s.tails;
   marks = marks_else t.rows t.words CALLERS n t.lists q (λ l lt. omega arith) s.marks;
   bells = bells_else t.rows t.words CALLERS n t.consumers t.lists q (λ c l fewer lt. omega arith) s.bells;
+  rung = s.rung;
   depth = depth_else t.rows t.words CALLERS n q (omega arith) s.depth;
   draws = draws_else t.rows t.words CALLERS n t.drawer q (omega arith) (λ r less none. omega arith) (λ r less none. omega arith) s.draws;
   reserved = s.reserved;

@@ -36,6 +36,7 @@ help_kept t q h l r from s fits =
       tails = tails_moved t.rows t.lists l r t.words q (omega (arith, s.shaped.long)) (record { row = row.0; found = row.1; list = list }) s.tails;
       marks = marks_else t.rows t.words (tail_of t.rows l) (suc r) t.lists q (λ k lt. omega arith) s.marks;
       bells = bells_else t.rows t.words (tail_of t.rows l) (suc r) t.consumers t.lists q (λ c k less lt. omega arith) s.bells;
+      rung = s.rung;
       depth = depth_else t.rows t.words (tail_of t.rows l) (suc r) q (omega arith) s.depth;
       draws = draws_else t.rows t.words (tail_of t.rows l) (suc r) t.drawer q (omega arith) (λ k less none. omega arith) (λ k less none. omega arith) s.draws;
       reserved = λ k. s.reserved k ∙ sym (but_same t.reserved h k);

@@ -4,7 +4,7 @@ use Rattle.std.specs.Prelude.{◌%◌}
 use Rattle.std.proofs.lemmas.Bool.{cases_Bool, ltb-true}
 use Rattle.queue_model.specs.declared.queues.Queue.{Queue}
 use Rattle.queue_model.specs.declared.steps.Step.{Step}
-use Rattle.queue_model.specs.declared.steps.Step.TheVariants.{Draw, Draft, Link, HelpTail, Load, State, Unlink, Mark, Count, Reset, Reserve, GiveBack}
+use Rattle.queue_model.specs.declared.steps.Step.TheVariants.{Draw, Draft, Link, HelpTail, Load, State, Unlink, Ring, TakeBell, Mark, Count, Reset, Reserve, GiveBack}
 use Rattle.queue_model.specs.History.{after, Legal, deeds_of}
 use Rattle.queue_model.specs.State.{empty}
 use Rattle.queue_model.proofs.Histories.{after-append, legal-append}
@@ -25,6 +25,7 @@ use Rattle.link_core.proofs.Linking.{link_step}
 use Rattle.link_core.proofs.Making.{fresh_stands}
 use Rattle.link_core.proofs.Marking.{mark_step, count_kept}
 use Rattle.link_core.proofs.Reserving.{reserve_kept, give_back_kept}
+use Rattle.link_core.proofs.Ringing.{ring_step, take_step}
 use Rattle.link_core.proofs.Unlinking.{unlink_step}
 
 -- a step that changes its word
@@ -36,6 +37,8 @@ hit_step t q h (HelpTail l from to) s fits hit = (tt, help_step t q h l from to 
 hit_step t q h (Load name) s fits hit = let bad : false ≡ true = hit in absurd (cc)
 hit_step t q h (State r change from) s fits hit = let p = state_step t q h r 0 change from s fits (eqb-true (shown t (State r change from)) (pack_state from) hit) in ((p.0, tt), p.1)
 hit_step t q h (Unlink at from to) s fits hit = (tt, unlink_step t q at from to s fits h (eqb-true (shown t (Unlink at from to)) (suc from) hit))
+hit_step t q h (Ring c r) s fits hit = let p = ring_step t q h c r s fits in ((p.0, tt), p.1)
+hit_step t q h (TakeBell c l) s fits hit = let p = take_step t q h c l s fits.0 fits.1 in ((p.0, tt), p.1)
 hit_step t q h (Mark l n) s fits hit = (tt, mark_step t q h l n s fits)
 hit_step t q h (Count l) s fits hit = (tt, count_kept t q h l ((shown t (Count l) + 1) % 2 ^ 64) s fits)
 hit_step t q h (Reset l) s fits hit = (tt, count_kept t q h l 0 s fits)

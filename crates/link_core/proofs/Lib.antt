@@ -1,5 +1,7 @@
 pub mod Frames
 pub mod Drawing
+pub mod Fewer
+pub mod Ringing
 pub mod Reserving
 pub mod Softening
 pub mod Packing

@@ -19,6 +19,7 @@ use Rattle.queue_model.proofs.Depths.{depth_kept}
 use Rattle.queue_model.proofs.KeyedLemmas.{all-weaker, find-append}
 use Rattle.queue_model.proofs.Owns.{own_giving, own_enqueued, own_enqueued_last}
 use Rattle.queue_model.proofs.RowFacts.{row_push_other}
+use Rattle.queue_model.proofs.BellRows.{bells_ring_step}
 use Rattle.queue_model.proofs.SoundSteps.{sound_step, row_fits, list_found}
 use Rattle.queue_model.proofs.Stable.{found_in_list, place_step, new_step}
 use Rattle.link_core.specs.declared.places.TheConstants.{TOP, DEPTH}
@@ -249,6 +250,7 @@ module _ (t : Table) (q : Queue) (h r : ℕ) (node : Node) (content origin : Lis
     tails = tails_linked (slice_set t.words i (suc r)) (tails_else t.rows t.words i (suc r) t.lists q facts.tails s.tails);
     marks = marks_linked (slice_set t.words i (suc r)) (marks_else t.rows t.words i (suc r) t.lists q facts.marks s.marks);
     bells = bells_else t.rows t.words i (suc r) t.consumers t.lists q facts.bells s.bells;
+    rung = bells_ring_step q h (enqueue_with t r content origin n) can s.rung;
     depth = depth_else t.rows t.words i (suc r) q facts.depth s.depth ∙ ap₂ pack_depth (sym same.0) (sym same.1);
     draws = draws_linked;
     reserved = reserved_after_act t q h (enqueue_with t r content origin n) (with_less (t.reserved h) (size_in t r)) s.reserved

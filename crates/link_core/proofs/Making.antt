@@ -130,6 +130,7 @@ fresh_stands lists rows consumers callers few_rows few_consumers few_callers = r
   tails = λ l lt. inl (word_at callers rows lists l 1 (tail_of rows l) lt (omega arith) (omega arith));
   marks = λ l lt. inl (word_at callers rows lists l 2 (mark_of rows l) lt (omega arith) (omega arith));
   bells = λ c l less lt. let few : c < 64 = omega (arith, less, few_consumers) in word_at callers rows lists l (4 + c) (bell_of rows c l) lt (omega (arith, few)) (omega arith) ∙ block_bell c few;
+  rung = λ c l b e. absurd (cc);
   depth = refl;
   draws = record {
     top = omega arith;

@@ -36,6 +36,7 @@ mark_step t q h l n s fits =
       tails = tails_else t.rows t.words (mark_of t.rows l) n t.lists q (λ k lt. omega arith) s.tails;
       marks = marks_raised t.rows t.lists l r n t.words q (omega (arith, s.shaped.long)) (record { row = row.0; found = row.1; list = sym drafted.list ∙ is.list }) (sym is.place ∙ drafted.place) s.marks;
       bells = bells_else t.rows t.words (mark_of t.rows l) n t.consumers t.lists q (λ c k less lt. omega arith) s.bells;
+      rung = s.rung;
       depth = depth_else t.rows t.words (mark_of t.rows l) n q (omega arith) s.depth;
       draws = draws_else t.rows t.words (mark_of t.rows l) n t.drawer q (omega arith) (λ k less none. omega arith) (λ k less none. omega arith) s.draws;
       reserved = λ k. s.reserved k ∙ sym (but_same t.reserved h k);
@@ -53,6 +54,7 @@ count_kept t q h l n s low =
       tails = tails_else t.rows t.words (count_of t.rows l) n t.lists q (λ k lt. omega arith) s.tails;
       marks = marks_else t.rows t.words (count_of t.rows l) n t.lists q (λ k lt. omega arith) s.marks;
       bells = bells_else t.rows t.words (count_of t.rows l) n t.consumers t.lists q (λ c k less lt. omega arith) s.bells;
+      rung = s.rung;
       depth = depth_else t.rows t.words (count_of t.rows l) n q (omega arith) s.depth;
       draws = draws_else t.rows t.words (count_of t.rows l) n t.drawer q (omega arith) (λ k less none. omega arith) (λ k less none. omega arith) s.draws;
       reserved = λ k. s.reserved k ∙ sym (but_same t.reserved h k);

@@ -52,6 +52,7 @@ depth_word_kept t q h n v others s sound depth reserved =
       tails = tails_else t.rows t.words 2 n t.lists q (λ l lt. omega arith) s.tails;
       marks = marks_else t.rows t.words 2 n t.lists q (λ l lt. omega arith) s.marks;
       bells = bells_else t.rows t.words 2 n t.consumers t.lists q (λ c l fewer lt. omega arith) s.bells;
+      rung = λ c l b e. let of = s.rung c l b e in record { rung = of.rung; found = of.found; list = of.list; place = of.place };
       depth = let long = s.shaped.long in set_here t.words 2 n (omega (arith, long)) ∙ depth;
       draws = draws_else t.rows t.words 2 n t.drawer q (omega arith) (λ r less none. omega arith) (λ r less none. omega arith) s.draws;
       reserved = reserved;

@@ -4,7 +4,7 @@ use Rattle.std.proofs.lemmas.Bool.{cases_eq}
 use Rattle.queue_model.specs.declared.queues.Reservation.{Reservation}
 use Rattle.queue_model.specs.declared.steps.Change.TheVariants.{Acq, Lock, Unlock, Steal, Rel, Deq, Del}
 use Rattle.queue_model.specs.declared.steps.Step.{Step}
-use Rattle.queue_model.specs.declared.steps.Step.TheVariants.{Draw, Draft, Link, HelpTail, Load, State, Unlink, Mark, Count, Reset, Reserve, GiveBack}
+use Rattle.queue_model.specs.declared.steps.Step.TheVariants.{Draw, Draft, Link, HelpTail, Load, State, Unlink, Ring, TakeBell, Mark, Count, Reset, Reserve, GiveBack}
 use Rattle.link_core.specs.Kept.{drawers_of}
 use Rattle.link_core.specs.Steps.{changed_by, place_of_step, word_after, drawer_after, reserves_after}
 use Rattle.link_core.specs.Table.{Table, top, but}
@@ -25,6 +25,8 @@ reserves_holder t h (State r Rel from) = refl
 reserves_holder t h (State r Deq from) = refl
 reserves_holder t h (State r Del from) = refl
 reserves_holder t h (Unlink at from to) = refl
+reserves_holder t h (Ring c r) = refl
+reserves_holder t h (TakeBell c l) = refl
 reserves_holder t h (Mark l n) = refl
 reserves_holder t h (Count l) = refl
 reserves_holder t h (Reset l) = refl
@@ -60,7 +62,7 @@ module _ (rows lists consumers callers : ℕ) where
 
     -- all writes together
     pub changed_same : (words' : List ℕ) (drawers' : List (Option ℕ)) (v : Reservation)
-        → words' ≡ set words (place_of_step rows step) (word_after (listed words drawers entries bytes) h step)
+        → words' ≡ set words (place_of_step rows words step) (word_after (listed words drawers entries bytes) h step)
         → drawers_of drawers' ≡ drawer_after (drawers_of drawers) (top (listed words drawers entries bytes)) h step
         → v ≡ reserves_after (listed words drawers entries bytes) h step
         → h < length entries → h < length bytes

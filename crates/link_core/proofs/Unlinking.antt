@@ -76,6 +76,7 @@ module _ (t : Table) (q : Queue) (at : Node) (a b : ℕ) (s : Stands t q) (fits 
         tails = tails_else t.rows t.words i (suc b) t.lists q off.tails s.tails;
         marks = marks_else t.rows t.words i (suc b) t.lists q off.marks s.marks;
         bells = bells_else t.rows t.words i (suc b) t.consumers t.lists q off.bells s.bells;
+        rung = s.rung;
         depth = depth_else t.rows t.words i (suc b) q off.depth s.depth;
         draws = draws_else t.rows t.words i (suc b) t.drawer q off.first (λ r less none. off.states r less) off.new s.draws;
         reserved = λ k. s.reserved k ∙ sym (but_same t.reserved h k);

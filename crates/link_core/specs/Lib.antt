@@ -4,6 +4,5 @@ pub mod Stands
 pub mod Steps
 pub mod Fresh
 pub mod Laws
-pub mod Further
 pub mod Kept
 pub mod Advanced

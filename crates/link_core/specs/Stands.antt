@@ -7,7 +7,7 @@ use Rattle.queue_model.specs.declared.rows.RowState.TheVariants.{Deleted}
 use Rattle.queue_model.specs.declared.rows.Slip.{Slip}
 use Rattle.queue_model.specs.declared.steps.DraftWord.TheVariants as drafts
 use Rattle.queue_model.specs.Sound.{Sound}
-use Rattle.queue_model.specs.State.{row_at, rows_of, place_at, bell_at, reserved_by, entries, bytes}
+use Rattle.queue_model.specs.State.{row_at, rows_of, place_at, bell_at, BellsRing, reserved_by, entries, bytes}
 use Rattle.link_core.specs.declared.places.TheConstants.{TOP, DEPTH}
 use Rattle.link_core.specs.Layout.{words_of, row_link_of, head_of, tail_of, mark_of, bell_of, state_of, draft_of}
 use Rattle.queue_model.specs.Packing.{pack_state, pack_bell, pack_depth}
@@ -97,6 +97,7 @@ pub record Stands (t : Table) (q : Queue) : Type 0 where
   pub tails : Tails t.rows t.lists t.words q
   pub marks : Marks t.rows t.lists t.words q
   pub bells : Bells t.rows t.consumers t.lists t.words q
+  pub rung : BellsRing q
   pub depth : IsDepth t.words q
   pub draws : Draws t.rows t.words t.drawer (row_at q)
   pub reserved : (h : ℕ) → reserved_by q h ≡ t.reserved h

@@ -1,5 +1,7 @@
 -- steps on words: when a step fits, what it shows, which act it is, and what it leaves
-use Rattle.std.specs.Prelude.{◌≡◌, ℕ, ◌+◌, ◌-◌, ◌/◌, ◌%◌, ◌^◌, ◌<◌, ◌≤◌, Bool, true, false, ◌==◌, nat_lt, if◌then◌else◌, suc, Option, Some, None, List, [], ◌∷◌, ◌++◌, slice_index, slice_set, replicate}
+use Rattle.std.specs.Prelude.{◌≡◌, ℕ, ◌+◌, ◌-◌, ◌*◌, ◌/◌, ◌%◌, ◌^◌, ◌<◌, ◌≤◌, Bool, true, false, ◌==◌, nat_lt, if◌then◌else◌, min, suc, Option, Some, None, List, [], ◌∷◌, ◌++◌, slice_index, slice_set, replicate}
+use Rattle.std.specs.Option.{option_map}
+use Rattle.queue_model.specs.declared.queues.Bell as ring
 use Rattle.queue_model.specs.declared.deeds.Act.{Act}
 use Rattle.queue_model.specs.declared.deeds.Act.TheVariants as acts
 use Rattle.queue_model.specs.declared.deeds.Deed.{Deed}
@@ -13,14 +15,15 @@ use Rattle.queue_model.specs.declared.steps.DraftWord.TheVariants as drafts
 use Rattle.queue_model.specs.declared.steps.Node.{Node}
 use Rattle.queue_model.specs.declared.steps.Node.TheVariants as nodes
 use Rattle.queue_model.specs.declared.steps.Step.{Step}
-use Rattle.queue_model.specs.declared.steps.Step.TheVariants.{Draw, Draft, Link, HelpTail, Load, State, Unlink, Mark, Count, Reset, Reserve, GiveBack}
+use Rattle.queue_model.specs.declared.steps.Step.TheVariants.{Draw, Draft, Link, HelpTail, Load, State, Unlink, Ring, TakeBell, Mark, Count, Reset, Reserve, GiveBack}
 use Rattle.queue_model.specs.declared.steps.WordName.{WordName}
 use Rattle.queue_model.specs.declared.steps.WordName.TheVariants as names
+use Rattle.queue_model.specs.declared.limits.TheConstants.{PLACE_WORTH}
 use Rattle.queue_model.specs.History.{deeds_of}
 use Rattle.queue_model.specs.Table.{CanGive, most_bytes, most_entries, with_more, with_less}
 use Rattle.link_core.specs.declared.places.TheConstants.{TOP, DEPTH}
-use Rattle.link_core.specs.Layout.{link_of, tail_of, mark_of, count_of, state_of, draft_of, place_of_word}
-use Rattle.queue_model.specs.Packing.{pack_state, pack_node, entry_worth}
+use Rattle.link_core.specs.Layout.{link_of, tail_of, mark_of, count_of, bell_of, state_of, draft_of, place_of_word}
+use Rattle.queue_model.specs.Packing.{pack_state, pack_node, no_bell, entry_worth}
 use Rattle.link_core.specs.Table.{Table, top, but, IsLinked, IsNode, list_of_node}
 
 -- Words by name
@@ -153,6 +156,11 @@ pub record FitsUnlink (t : Table) (at : Node) (from to : ℕ) : Type 0 where
   pub later : place_in t from < place_in t to
   pub between : AreGone t from to
 
+-- a bell may be rung for a consumer that the table has, and for a linked row
+pub record FitsRing (t : Table) (c r : ℕ) : Type 0 where
+  pub consumer : c < t.consumers
+  pub row : IsLinked t r
+
 -- row r is linked, in list l at this place
 pub record IsLinkedAt (t : Table) (l at r : ℕ) : Type 0 where
   pub row : IsLinked t r
@@ -173,6 +181,8 @@ Fits t h (HelpTail l from to) = FitsHelpTo t l from to
 Fits t h (Load name) = HasWord t name
 Fits t h (State r change from) = FitsState t h r change from
 Fits t h (Unlink at from to) = FitsUnlink t at from to
+Fits t h (Ring c r) = FitsRing t c r
+Fits t h (TakeBell c l) = (c < t.consumers) × (l < t.lists)
 Fits t h (Mark l place) = FitsMark t l place
 Fits t h (Count l) = l < t.lists
 Fits t h (Reset l) = l < t.lists
@@ -181,27 +191,29 @@ Fits t h (GiveBack size) = CanGive (t.reserved h) size
 
 -- What a step shows
 
--- the place of the word that a step reads or changes, in a table of so many rows
-abbrev pub place_of_step : ℕ → Step → ℕ
-place_of_step rows Draw = TOP
-place_of_step rows (Draft r w value) = draft_of r w
-place_of_step rows (Link r node) = link_of rows node
-place_of_step rows (HelpTail l from to) = tail_of rows l
-place_of_step rows (Load name) = place_of_word rows name
-place_of_step rows (State r change from) = state_of r
-place_of_step rows (Unlink at from to) = link_of rows at
-place_of_step rows (Mark l place) = mark_of rows l
-place_of_step rows (Count l) = count_of rows l
-place_of_step rows (Reset l) = count_of rows l
-place_of_step rows (Reserve size) = DEPTH
-place_of_step rows (GiveBack size) = DEPTH
+-- the place of the word that a step reads or changes, in a table of so many rows that has these words
+abbrev pub place_of_step : ℕ → List ℕ → Step → ℕ
+place_of_step rows words Draw = TOP
+place_of_step rows words (Draft r w value) = draft_of r w
+place_of_step rows words (Link r node) = link_of rows node
+place_of_step rows words (HelpTail l from to) = tail_of rows l
+place_of_step rows words (Load name) = place_of_word rows name
+place_of_step rows words (State r change from) = state_of r
+place_of_step rows words (Unlink at from to) = link_of rows at
+place_of_step rows words (Ring c r) = bell_of rows c (slice_index words (draft_of r drafts.List))
+place_of_step rows words (TakeBell c l) = bell_of rows c l
+place_of_step rows words (Mark l place) = mark_of rows l
+place_of_step rows words (Count l) = count_of rows l
+place_of_step rows words (Reset l) = count_of rows l
+place_of_step rows words (Reserve size) = DEPTH
+place_of_step rows words (GiveBack size) = DEPTH
 
 -- the word before the step
 abbrev pub shown : Table → Step → ℕ
-shown t s = slice_index t.words (place_of_step t.rows s)
+shown t s = slice_index t.words (place_of_step t.rows t.words s)
 
--- Whether the step changes its word. An exchange that shows another word than the expected one is a load, and so is a
--- draw where no row is left. Of two marks the greater stands.
+-- Whether the step is done. An exchange that shows another word than the expected one is a load, and so is a draw where
+-- no row is left, and a mark that is no greater. A ring is done also where the bell keeps its word.
 abbrev pub hits : Table → Step → Bool
 hits t Draw = nat_lt (shown t Draw) t.rows
 hits t (Draft r w value) = true
@@ -210,6 +222,8 @@ hits t (HelpTail l from to) = shown t (HelpTail l from to) == pack_node from
 hits t (Load name) = false
 hits t (State r change from) = shown t (State r change from) == pack_state from
 hits t (Unlink at from to) = shown t (Unlink at from to) == suc from
+hits t (Ring c r) = true
+hits t (TakeBell c l) = true
 hits t (Mark l place) = nat_lt (shown t (Mark l place)) place
 hits t (Count l) = true
 hits t (Reset l) = true
@@ -233,7 +247,16 @@ abbrev pub reserved_after : Change → Reservation → ℕ → Reservation
 reserved_after Deq v size = with_more v size
 reserved_after change v size = v
 
--- The word that a step leaves where it changes it. Behind the greatest number a count begins again at 0.
+-- the row that a bell was rung for, if it was rung
+abbrev pub row_rung : Option ring.Bell → Option ℕ
+row_rung bell = option_map (λ b. b.row) bell
+
+-- the word of a bell that rings for a row: its place in its list above the bits of its number
+abbrev pub bell_word : Table → ℕ → ℕ
+bell_word t r = place_in t r * PLACE_WORTH + r
+
+-- The word that a step leaves where it is done. Of two bells the smaller word stands, which is that of the earlier
+-- place. Behind the greatest number a count begins again at 0.
 abbrev pub word_after : Table → ℕ → Step → ℕ
 word_after t h Draw = top t + 1
 word_after t h (Draft r w value) = value
@@ -242,6 +265,8 @@ word_after t h (HelpTail l from to) = pack_node to
 word_after t h (Load name) = shown t (Load name)
 word_after t h (State r change from) = pack_state (goes_to h change)
 word_after t h (Unlink at from to) = suc to
+word_after t h (Ring c r) = min (shown t (Ring c r)) (bell_word t r)
+word_after t h (TakeBell c l) = no_bell
 word_after t h (Mark l place) = place
 word_after t h (Count l) = (shown t (Count l) + 1) % 2 ^ 64
 word_after t h (Reset l) = 0
@@ -262,9 +287,9 @@ reserves_after t h (Reserve size) = with_more (t.reserved h) size
 reserves_after t h (GiveBack size) = with_less (t.reserved h) size
 reserves_after t h step = t.reserved h
 
--- the table that a step leaves where it changes its word
+-- the table that a step leaves where it is done
 abbrev pub changed_by : Table → ℕ → Step → Table
-changed_by t h s = record t { words = slice_set t.words (place_of_step t.rows s) (word_after t h s); drawer = drawer_after t.drawer (top t) h s; reserved = but t.reserved h (reserves_after t h s) }
+changed_by t h s = record t { words = slice_set t.words (place_of_step t.rows t.words s) (word_after t h s); drawer = drawer_after t.drawer (top t) h s; reserved = but t.reserved h (reserves_after t h s) }
 
 -- the table afterwards
 abbrev pub moved : Table → ℕ → Step → Table
@@ -284,11 +309,13 @@ act_with n Del r = acts.Del r
 abbrev pub enqueue_with : Table → ℕ → List ℕ → List ℕ → ℕ → Act
 enqueue_with t r content origin n = acts.Enq r (slip_in t r) content origin n
 
--- The acts of a step that changes its word: one or none. Contents and counts are not told: a content is as many zeros
+-- The acts of a step that is done: one or none. Contents and counts are not told: a content is as many zeros
 -- as the size, an origin is empty, and a count is 0.
 abbrev pub acts_in : Table → Step → List Act
 acts_in t (Link r node) = enqueue_with t r (replicate (size_in t r) 0) [] 0 ∷ []
 acts_in t (State r change from) = act_with 0 change r ∷ []
+acts_in t (Ring c r) = acts.Bell r c ∷ []
+acts_in t (TakeBell c l) = acts.Take c l ∷ []
 acts_in t (Reserve size) = acts.Reserve size ∷ []
 acts_in t (GiveBack size) = acts.GiveBack size ∷ []
 acts_in t step = []

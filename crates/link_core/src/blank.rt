@@ -4,10 +4,8 @@ ghost use Rattle.link_core.specs.Fresh.{blank_rows, empty_lists, fresh, fresh_wo
 ghost use Rattle.link_core.specs.Kept.{IsLong, table_in};
 
 use crate::store::Store;
+use queue_model::NO_BELL;
 use std::alloc::{AllocError, Global};
-
-/// The word of a bell that is not rung.
-const NO_BELL: u64 = 18_446_744_073_709_551_615;
 
 /// Adds the words of so many rows that nobody drew.
 fn add_rows(words: &mut Vec<u64>, rows: u64) -> Result<(), AllocError>

@@ -5,7 +5,7 @@ ghost use Rattle.link_core.specs.declared.places.TheConstants.{DEPTH};
 ghost use Rattle.link_core.specs.Kept.{IsKept, table_in};
 ghost use Rattle.link_core.specs.Layout.{draft_of};
 ghost use Rattle.queue_model.specs.Packing.{entry_worth};
-ghost use Rattle.link_core.specs.Steps.{AreGone, Fits, FitsHelp, FitsHelpTo, FitsBehind, FitsLink, FitsMark, FitsState, FitsUnlink, GoesFrom, IsBetween, IsGone, IsGoneBetween, IsLinkedAt, HasWord, IsBehind, IsDrawnBy, IsPackable, place_behind, place_in};
+ghost use Rattle.link_core.specs.Steps.{AreGone, Fits, FitsHelp, FitsHelpTo, FitsBehind, FitsLink, FitsMark, FitsRing, FitsState, FitsUnlink, GoesFrom, IsBetween, IsGone, IsGoneBetween, IsLinkedAt, HasWord, IsBehind, IsDrawnBy, IsPackable, place_behind, place_in};
 ghost use Rattle.link_core.specs.Table.{IsLinked, IsNode, list_of_node};
 
 use crate::places::{DEPTH, TOP, draft_place, state_place, state_word};
@@ -240,6 +240,14 @@ impl Store {
             && self.are_gone(from, to)
     }
 
+    /// Whether the bell of a consumer may be rung for a row.
+    fn fits_ring(&self, consumer: u32, row: u64) -> bool
+        requires { IsKept self.now }
+        ensures { IsTrue result ↔ FitsRing (table_in self.now) consumer row }
+    {
+        consumer < self.consumers && self.is_linked(row)
+    }
+
     /// Whether a row is linked, in this list at this place.
     fn is_linked_at(&self, list: u64, place: u64, row: u64) -> bool
         requires { IsKept self.now }
@@ -303,6 +311,8 @@ impl Store {
                 self.is_linked(row) && goes_from(caller, change, from) && is_packable(from)
             }
             Step::Unlink { at, from, to } => self.fits_unlink(at, from, to),
+            Step::Ring { consumer, row } => self.fits_ring(consumer, row),
+            Step::TakeBell { consumer, list } => consumer < self.consumers && list < self.lists,
             Step::Mark { list, place } => self.fits_mark(list, place),
             Step::Count { list } => list < self.lists,
             Step::Reset { list } => list < self.lists,

@@ -2,13 +2,15 @@
 //!
 //! Three words of the whole table come first, then the words of each row, and behind the last row the words of
 //! each list.
-ghost use Rattle.std.specs.Prelude.{◌≡◌, ◌<◌, ◌^◌, ℕ};
-ghost use Rattle.link_core.specs.Layout.{count_of, draft_of, head_of, link_of, mark_of, place_of_word, row_link_of, state_of, tail_of, words_of};
-ghost use Rattle.queue_model.specs.Packing.{pack_node, pack_state};
-ghost use Rattle.link_core.specs.Steps.{place_of_step};
+ghost use Rattle.std.specs.Prelude.{◌≡◌, ◌<◌, ◌^◌, ℕ, Option, IfSome};
+ghost use Rattle.link_core.specs.Layout.{bell_of, count_of, draft_of, head_of, link_of, mark_of, place_of_word, row_link_of, state_of, tail_of, words_of};
+ghost use Rattle.queue_model.specs.Packing.{pack_bell, pack_node, pack_state};
+ghost use Rattle.queue_model.specs.Table.{most_entries};
+ghost use Rattle.queue_model.specs.declared.queues.Bell.{Bell};
+ghost use Rattle.link_core.specs.Steps.{row_rung};
 ghost use Rattle.queue_model.specs.declared.rows.RowState.{RowState};
 
-use queue_model::{DraftWord, Node, RowState, Step, WordName};
+use queue_model::{DraftWord, NO_BELL, Node, PLACE_WORTH, RowState, WordName};
 
 /// The word of how many rows were drawn.
 pub const TOP: usize = 0;
@@ -54,6 +56,9 @@ pub const MARK_AT: usize = 2;
 
 /// Where the count stands among the words of its list.
 pub const COUNT_AT: usize = 3;
+
+/// How many bells each list has, one for each consumer that a table may have.
+pub const LIST_BELLS: u32 = 64;
 
 /// Where the first of the bells stands among the words of a list.
 pub const BELLS_AT: usize = 4;
@@ -114,6 +119,14 @@ pub fn count_place(rows: u64, list: u32) -> usize
     list_place(rows, list) + COUNT_AT
 }
 
+/// Where the bell of a consumer at a list stands, behind so many rows.
+pub fn bell_place(rows: u64, list: u32, consumer: u32) -> usize
+    requires { bell_of rows consumer list < 2 ^ 63 }
+    ensures { result ≡ bell_of rows consumer list }
+{
+    list_place(rows, list) + BELLS_AT + consumer as usize
+}
+
 /// Where the link of a node stands, in a table of so many rows.
 pub fn link_place(rows: u64, node: Node) -> usize
     requires { link_of rows node < 2 ^ 63 }
@@ -152,32 +165,9 @@ pub fn word_place(rows: u64, name: WordName) -> usize
         WordName::Tail(list) => tail_place(rows, list),
         WordName::Mark(list) => mark_place(rows, list),
         WordName::Count(list) => count_place(rows, list),
-        WordName::Bell { consumer, list } => {
-            list_place(rows, list) + BELLS_AT + consumer as usize
-        }
+        WordName::Bell { consumer, list } => bell_place(rows, list, consumer),
         WordName::State(row) => state_place(row),
         WordName::Draft { row, word } => draft_place(row, word),
-    }
-}
-
-/// Where the word of a step stands, in a table of so many rows.
-pub(crate) fn step_place(rows: u64, step: Step) -> usize
-    requires { place_of_step rows step < 2 ^ 63 }
-    ensures { result ≡ place_of_step rows step }
-{
-    match step {
-        Step::Draw => TOP,
-        Step::Draft { row, word, .. } => draft_place(row, word),
-        Step::Link { after, .. } => link_place(rows, after),
-        Step::HelpTail { list, .. } => tail_place(rows, list),
-        Step::Load { word } => word_place(rows, word),
-        Step::State { row, .. } => state_place(row),
-        Step::Unlink { at, .. } => link_place(rows, at),
-        Step::Mark { list, .. } => mark_place(rows, list),
-        Step::Count { list } => count_place(rows, list),
-        Step::Reset { list } => count_place(rows, list),
-        Step::Reserve { .. } => DEPTH,
-        Step::GiveBack { .. } => DEPTH,
     }
 }
 
@@ -209,6 +199,18 @@ pub fn state_of(word: u64) -> RowState
         RowState::Locked(word / 8)
     } else {
         RowState::Unlocked(word / 8)
+    }
+}
+
+/// The row that the bell of this word was rung for; none where it was not rung.
+pub fn bell_row(word: u64) -> Option<u64>
+    ensures { (bell : Option Bell) → IfSome bell (λ b. b.row < most_entries) → word ≡ pack_bell bell
+        → result ≡ row_rung bell }
+{
+    if word == NO_BELL {
+        None
+    } else {
+        Some(word % PLACE_WORTH)
     }
 }
 

@@ -313,6 +313,46 @@ const RAISE_TO_0: Step = Step::Mark { list: 0, place: 0 };
 
 const RAISE_TO_1: Step = Step::Mark { list: 0, place: 1 };
 
+const RING_FOR_0: Step = Step::Ring {
+    consumer: 0,
+    row: 0,
+};
+
+const RING_FOR_1: Step = Step::Ring {
+    consumer: 0,
+    row: 1,
+};
+
+const RING_OF_1: Step = Step::Ring {
+    consumer: 1,
+    row: 0,
+};
+
+const TAKE_BELL: Step = Step::TakeBell {
+    consumer: 0,
+    list: 0,
+};
+
+const TAKE_BELL_OF_1: Step = Step::TakeBell {
+    consumer: 1,
+    list: 0,
+};
+
+const TAKE_BELL_IN_1: Step = Step::TakeBell {
+    consumer: 0,
+    list: 1,
+};
+
+const BELL: Step = Step::Load {
+    word: WordName::Bell {
+        consumer: 0,
+        list: 0,
+    },
+};
+
+// The word of a bell that is not rung.
+const SILENT: Option<u64> = Some(18_446_744_073_709_551_615);
+
 const UNLINK_FIRST: Step = Step::Unlink {
     at: Node::Head(0),
     from: 0,
@@ -323,7 +363,13 @@ const UNLINK_FIRST: Step = Step::Unlink {
 type Shown = (u64, Step, Option<u64>);
 
 // From a fresh table of 2 lists, 2 rows, 1 consumer and 2 callers.
-const FROM_FRESH: [&[Shown]; 22] = [
+const FROM_FRESH: [&[Shown]; 23] = [
+    &[
+        (0, RING_FOR_0, None),
+        (0, TAKE_BELL, SILENT),
+        (0, TAKE_BELL_OF_1, None),
+        (1, TAKE_BELL_IN_1, SILENT),
+    ],
     &[
         (0, COUNT_UP, Some(0)),
         (1, COUNT_UP, Some(1)),
@@ -458,7 +504,20 @@ const FROM_FRESH: [&[Shown]; 22] = [
 
 // From a table of 1 list, where caller 1 has linked row 0, of 16 bytes, and caller 0 has reserved 20 bytes,
 // and has drawn row 1 and written it down behind the head, with id 6.
-const FROM_LINKED: [&[Shown]; 23] = [
+const FROM_LINKED: [&[Shown]; 24] = [
+    &[
+        (0, RING_FOR_1, None),
+        (0, RING_OF_1, None),
+        (0, TAKE_BELL_IN_1, None),
+        (0, SECOND_PLACED_1, Some(0)),
+        (0, LINK_BEHIND, Some(0)),
+        (1, RING_FOR_1, SILENT),
+        (0, BELL, Some(1_048_577)),
+        (0, RING_FOR_0, Some(1_048_577)),
+        (1, RING_FOR_1, Some(0)),
+        (0, TAKE_BELL, Some(0)),
+        (1, BELL, SILENT),
+    ],
     &[
         (1, ACQ_0, Some(1)),
         (1, DEQ_FROM_1, Some(12)),

@@ -2,14 +2,19 @@
 ghost use Rattle.std.specs.Prelude.{◌≡◌, ◌+◌, ◌-◌, ◌<◌, ◌≤◌, ◌^◌, ℕ, true, length, slice_index, slice_index_or, OnErr};
 ghost use Rattle.link_core.specs.Advanced.{Advances};
 ghost use Rattle.link_core.specs.Kept.{drawers_of, IsKept, IsLong, SetsBelow, table_in};
-ghost use Rattle.link_core.specs.Steps.{changed_by, drawer_after, Fits, goes_to, hits, reserves_after, shown, size_in, word_after};
+ghost use Rattle.link_core.specs.Steps.{bell_word, changed_by, drawer_after, Fits, goes_to, hits, list_in, place_of_step, reserves_after, shown, size_in, word_after};
 ghost use Rattle.link_core.specs.Table.{IsLinked};
 ghost use Rattle.queue_model.specs.declared.queues.Reservation.{Reservation};
 ghost use Rattle.queue_model.specs.Table.{with_less, with_more};
 
-use crate::places::{TOP, node_word, state_word, step_place};
+use crate::places::{
+    DEPTH, TOP, bell_place, count_place, draft_place, link_place, mark_place, node_word, state_place,
+    state_word, tail_place, word_place,
+};
 use crate::stepping::Unfit;
-use queue_model::{Change, DraftWord, ENTRY_WORTH, Reservation, RowState, Step};
+use queue_model::{
+    Change, DraftWord, ENTRY_WORTH, NO_BELL, PLACE_WORTH, Reservation, RowState, Step,
+};
 
 /// The words in their order, the drawer of each row that is not linked, and what each caller has reserved.
 #[derive(Debug, Drop)]
@@ -95,17 +100,53 @@ impl Store {
         }
     }
 
+    /// The list that the drawer of a linked row wrote down.
+    fn list(&self, row: u64) -> u32
+        requires kept { IsKept self.now }
+        requires row { IsLinked (table_in self.now) row }
+        ensures { result ≡ list_in (table_in self.now) row }
+    {
+        let _lists = self.lists;
+        self.draft(row, DraftWord::List) as u32
+    }
+
+    /// Where the word of a step stands.
+    fn step_place(&self, caller: u64, step: Step) -> usize
+        requires kept { IsKept self.now }
+        requires fits { Fits (table_in self.now) caller step }
+        ensures place { result ≡ place_of_step self.now.rows self.now.words.items step }
+        ensures low { result < length self.now.words.items }
+    {
+        let _ = caller;
+        let rows = self.rows;
+        match step {
+            Step::Draw => TOP,
+            Step::Draft { row, word, .. } => draft_place(row, word),
+            Step::Link { after, .. } => link_place(rows, after),
+            Step::HelpTail { list, .. } => tail_place(rows, list),
+            Step::Load { word } => word_place(rows, word),
+            Step::State { row, .. } => state_place(row),
+            Step::Unlink { at, .. } => link_place(rows, at),
+            Step::Ring { consumer, row } => bell_place(rows, self.list(row), consumer),
+            Step::TakeBell { consumer, list } => bell_place(rows, list, consumer),
+            Step::Mark { list, .. } => mark_place(rows, list),
+            Step::Count { list } => count_place(rows, list),
+            Step::Reset { list } => count_place(rows, list),
+            Step::Reserve { .. } => DEPTH,
+            Step::GiveBack { .. } => DEPTH,
+        }
+    }
+
     /// The word that a step shows.
     pub(crate) fn shown(&self, caller: u64, step: Step) -> u64
         requires kept { IsKept self.now }
         requires fits { Fits (table_in self.now) caller step }
         ensures { result ≡ shown (table_in self.now) step }
     {
-        let _ = caller;
-        self.word(step_place(self.rows, step))
+        self.word(self.step_place(caller, step))
     }
 
-    /// Whether a step changes its word.
+    /// Whether a step is done, or only shows a word.
     pub(crate) fn hits(&self, caller: u64, step: Step) -> bool
         requires kept { IsKept self.now }
         requires fits { Fits (table_in self.now) caller step }
@@ -120,6 +161,8 @@ impl Store {
             Step::Load { .. } => false,
             Step::State { from, .. } => found == state_word(from),
             Step::Unlink { from, .. } => found == from + 1,
+            Step::Ring { .. } => true,
+            Step::TakeBell { .. } => true,
             Step::Mark { place, .. } => found < place,
             Step::Count { .. } => true,
             Step::Reset { .. } => true,
@@ -137,7 +180,16 @@ impl Store {
         self.draft(row, DraftWord::Size)
     }
 
-    /// The word that a step leaves where it changes it.
+    /// The word of a bell that rings for a linked row.
+    fn bell_word(&self, row: u64) -> u64
+        requires kept { IsKept self.now }
+        requires row { IsLinked (table_in self.now) row }
+        ensures { result ≡ bell_word (table_in self.now) row }
+    {
+        self.draft(row, DraftWord::Place) * PLACE_WORTH + row
+    }
+
+    /// The word that a step leaves where it is done.
     fn word_after(&self, caller: u64, step: Step) -> u64
         requires kept { IsKept self.now }
         requires caller { caller < self.now.callers }
@@ -153,6 +205,8 @@ impl Store {
             Step::Load { .. } => found,
             Step::State { change, .. } => state_word(goes_to(caller, change)),
             Step::Unlink { to, .. } => to + 1,
+            Step::Ring { row, .. } => found.min(self.bell_word(row)),
+            Step::TakeBell { .. } => NO_BELL,
             Step::Mark { place, .. } => place,
             Step::Count { .. } => found.wrapping_add(1),
             Step::Reset { .. } => 0,
@@ -161,7 +215,7 @@ impl Store {
         }
     }
 
-    /// What the caller has reserved after a step that changes its word.
+    /// What the caller has reserved after a step that is done.
     fn reserves_after(&self, caller: u64, step: Step) -> Reservation
         requires kept { IsKept self.now }
         requires caller { caller < self.now.callers }
@@ -182,7 +236,7 @@ impl Store {
         }
     }
 
-    /// Does a step that fits and changes its word.
+    /// Does a step that fits and is more than a load.
     pub(crate) fn change(&mut self, caller: u64, step: Step)
         requires kept { IsKept self.old }
         requires caller { caller < self.old.callers }
@@ -193,9 +247,10 @@ impl Store {
     {
         let reserved = self.reserves_after(caller, step);
         let word = self.word_after(caller, step);
+        let place = self.step_place(caller, step);
         let next = self.word(TOP);
         set_drawer(&mut self.drawers, next, caller, step);
-        self.words[step_place(self.rows, step)] = word;
+        self.words[place] = word;
         self.entries[caller as usize] = reserved.entries;
         self.bytes[caller as usize] = reserved.bytes;
     }

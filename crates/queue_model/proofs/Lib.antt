@@ -10,5 +10,5 @@ pub mod Orders
 pub mod Histories
 pub mod Prefixes
 pub mod Performing
--- inner
-mod Bells
+pub mod Bells
+pub mod BellRows

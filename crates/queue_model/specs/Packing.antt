@@ -1,6 +1,6 @@
 -- how what a word of a linked queue stands for is packed into a number
 use Rattle.std.specs.Prelude.{ℕ, ◌+◌, ◌*◌, suc, Option, Some, None}
-use Rattle.queue_model.specs.declared.limits.TheConstants.{ENTRY_WORTH, PLACE_WORTH}
+use Rattle.queue_model.specs.declared.limits.TheConstants.{ENTRY_WORTH, NO_BELL, PLACE_WORTH}
 use Rattle.queue_model.specs.declared.queues.Bell as ring
 use Rattle.queue_model.specs.declared.rows.RowState.{RowState}
 use Rattle.queue_model.specs.declared.rows.RowState.TheVariants.{Available, Locked, Unlocked, Dequeued, Deleted}
@@ -22,7 +22,7 @@ pack_node (nodes.Row r) = suc r
 
 -- the word of a bell that is not rung
 abbrev pub no_bell : ℕ
-no_bell = 18446744073709551615
+no_bell = NO_BELL
 
 -- the word of a bell; None where it is silent
 abbrev pub pack_bell : Option ring.Bell → ℕ

@@ -72,6 +72,17 @@ is_bell c l b = (b.consumer == c) && (b.list == l)
 abbrev pub bell_at : Queue → ℕ → ℕ → Option Bell
 bell_at q c l = find (is_bell c l) q.bells
 
+-- the bell is of a row of list l, and has its place
+pub record IsBellOf (q : Queue) (l : ℕ) (b : Bell) : Type 0 where
+  pub rung : Row
+  pub found : row_at q b.row ≡ Some rung
+  pub list : rung.slip.list ≡ l
+  pub place : b.place ≡ place_at q b.row
+
+-- each bell that was rung is of a row of its list
+abbrev pub BellsRing : Queue → Type 0
+BellsRing q = (c l : ℕ) (b : Bell) → bell_at q c l ≡ Some b → IsBellOf q l b
+
 -- Depth
 
 -- whether a row in this state counts towards the depth

@@ -13,7 +13,7 @@ pub mod steps;
 
 pub use deeds::{Act, Deed, Unapplied};
 pub use field_lists::fits_mask;
-pub use limits::{ENTRY_WORTH, MOST_ENTRIES, PLACE_WORTH};
+pub use limits::{ENTRY_WORTH, MOST_ENTRIES, NO_BELL, PLACE_WORTH};
 pub use queues::{Bell, Depth, Limits, Policy, Queue, Reservation};
 pub use rows::{Row, RowState, Slip};
 pub use state::QueueState;

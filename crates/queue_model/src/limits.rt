@@ -9,3 +9,6 @@ pub const ENTRY_WORTH: u64 = 1_099_511_627_776;
 
 /// The worth of a place in the word of a bell; the number of the row counts one each.
 pub const PLACE_WORTH: u64 = 1_048_576;
+
+/// The word of a bell that is not rung.
+pub const NO_BELL: u64 = 18_446_744_073_709_551_615;

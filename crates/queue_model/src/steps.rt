@@ -109,6 +109,17 @@ pub enum Step {
         from: u64,
         to: u64,
     },
+    /// Rings the bell of a consumer for a row, at the row's list. Of the bell that was rung before and this one
+    /// the earlier stands.
+    Ring {
+        consumer: u32,
+        row: u64,
+    },
+    /// Takes the bell of a consumer at a list, whether it was rung or not.
+    TakeBell {
+        consumer: u32,
+        list: u32,
+    },
     /// Raises the mark of a list to the place of a row, where that is greater.
     Mark {
         list: u32,

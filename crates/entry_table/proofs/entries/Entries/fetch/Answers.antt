@@ -10,7 +10,7 @@ pub load-requires : goal.load-requires
 load-requires g c = let wide = c.args.self.now.wide in (
   search rules,
   omega (arith, wide),
-  fetches_allowed g.C.Freight.goods c.args.self.now.table.shared.key _ _ _ g.J.Placing.number (Load Callers) c.args.seat.now.me c.args.caller (rest_of c.args.seat.now.me.0.callers) refl c.requires.caller c.requires.idle (subst (Mine (state_in c.args.seat.now.me.0) c.args.seat.now.me.0) (sym c.requires.picked) c.requires.mine),
+  fetches_allowed g.C.Freight.goods c.args.self.now.table.shared.key _ _ _ g.J.Placing.number (Load Callers) c.args.seat.now.me c.args.caller (rest_of c.args.seat.now.me.0.callers) (λ ws. refl) c.requires.caller c.requires.idle (subst (Mine (state_in c.args.seat.now.me.0) c.args.seat.now.me.0) (sym c.requires.picked) c.requires.mine),
 )
 
 pub returns-clause-told : goal.returns-clause-told

@@ -19,7 +19,7 @@ load-requires g c =
     let is = c.word_place-place.ensures in (
       search rules,
       omega (arith, low, wide, is),
-      looks_allowed g.C.Freight.goods e.table.shared.key _ _ _ g.J.Trying.step c.args.seat.now.me c.args.caller (rest_of c.args.seat.now.me.0.callers) (is ∙ ap (place_of_step e.shape.rows) (sym c.requires.step) ∙ ap (λ (z : Shape). place_of_step z.rows g.J.Trying.step) (sym e.keyed)) c.requires.caller,
+      looks_allowed g.C.Freight.goods e.table.shared.key _ _ _ g.J.Trying.step c.args.seat.now.me c.args.caller (rest_of c.args.seat.now.me.0.callers) (λ ws. is ∙ ap (place_of_step e.shape.rows ws) (sym c.requires.step) ∙ ap (λ (z : Shape). place_of_step z.rows ws g.J.Trying.step) (sym e.keyed)) c.requires.caller,
     )
 
 pub returns-clause-told : goal.returns-clause-told

@@ -8,7 +8,7 @@ use Rattle.link_core.proofs.store.Store.change.Goals as goal
 pub returns-clause-table : goal.returns-clause-table
 returns-clause-table c =
     changed_same _ _ _ _ _ _ _ _ c.args.caller c.args.step _ _ _
-    (ap₂ (λ (i v : ℕ). slice_set c.args.self.now.words.items i v) c.step_place.ensures c.word_after-word.ensures)
+    (ap₂ (λ (i v : ℕ). slice_set c.args.self.now.words.items i v) c.step_place-place.ensures.place c.word_after-word.ensures)
     (c.set_drawer.ensures.drawers ∙ ap (λ (n : ℕ). drawer_after (drawers_of c.args.self.now.drawers.items) n c.args.caller c.args.step) c.word-next.ensures)
     c.reserves_after-reserved.ensures
     (omega (arith, c.requires.kept.long.entries, c.requires.caller))
