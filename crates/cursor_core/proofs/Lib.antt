@@ -1,4 +1,16 @@
+pub mod Marks
+pub mod Carries
+pub mod Within
+pub mod Truths
+pub mod Passing
+pub mod Going
+pub mod Ringing
+pub mod Stopping
+pub mod Counting
+pub mod Listing
 pub mod Acquiring
+pub mod AtPass
 pub mod Getting
-pub mod Calling
+pub mod Outlasting
 pub mod Runs
+pub mod Calling

@@ -19,6 +19,7 @@ use Rattle.queue_model.proofs.Prefixes.{prefix_self, prefix_trans}
 use Rattle.queue_model.proofs.RowFacts.{row_number}
 use Rattle.queue_model.proofs.SoundSteps.{list_found, row_fits}
 use Rattle.queue_model.proofs.Stable.{found_in_list}
+use Rattle.link_core.proofs.Fewer.{position_in}
 use Rattle.link_core.proofs.Packing.{pack_same}
 use Rattle.acts_core.specs.Sight.{on_head}
 use Rattle.acts_core.specs.Steps.{NoHead}
@@ -34,7 +35,7 @@ use Rattle.entry_table.specs.Rule.{IsOnward}
 use Rattle.entry_table.specs.Sights.{sight}
 use Rattle.entry_table.specs.Skips.{link_word, watched, watch_of, Watching, Unlinks}
 use Rattle.entry_table.specs.Views.{entry}
-use Rattle.entry_table.proofs.Following.{position_in, place_low, stop_later}
+use Rattle.entry_table.proofs.Following.{place_low, stop_later}
 use Rattle.entry_table.proofs.Sighting.{stepped}
 use Rattle.entry_table.proofs.Skipped.{stop_known}
 use Rattle.scavenge_core.specs.Shown.{looks, hops, link_after}
@@ -72,7 +73,7 @@ hop_off l v w n seen ne = link_other (node_at l v) (entry (hop l w) n n seen) (o
 -- Rows of a list
 
 -- a row of a list has a place among the list's rows
-row_within : (q : Queue) (l r : ℕ) → IsOfList q l r → place_at q r < length (rows_of q l)
+pub row_within : (q : Queue) (l r : ℕ) → IsOfList q l r → place_at q r < length (rows_of q l)
 row_within q l r there =
     let list : list_at q r ≡ l = list_found q r there.0 there.1 ∙ there.2 in
     subst (λ (m : ℕ). place_at q r < length (rows_of q m)) list

@@ -1,54 +1,47 @@
-use Rattle.std.proofs.Common.{◌≡◌, ◌+◌, ℕ, suc, subst, arith}
-use Rattle.acts_core.specs.Walks.{FreeTo, IsStop}
-use Rattle.entry_table.specs.Passes.{state}
-use Rattle.entry_table.specs.Sights.{sight}
+use Rattle.std.proofs.Common.{arith}
 use Rattle.entry_table.proofs.Later.{kept_trans, pass_of}
-use Rattle.cursor_core.proofs.Getting.{got_free}
-use Rattle.cursor_core.proofs.Runs.{run_first, run_on, run_smaller, row_tried, row_faced}
 use Rattle.scavenge_core.proofs.Stepping.{row_low}
+use Rattle.cursor_core.proofs.AtPass.{faced_known, free_got, free_stop, free_faces, free_smaller}
 use Rattle.cursor_core.proofs.walks.walk_free.Goals as goal
 
 pub rows-init : goal.rows-init
 rows-init g c =
-    let k = c.step_behind-next.ensures in
-    record {
-      table = pass_of c.args.entries.now c.args.pass.now c.step_behind-next.new.pass c.requires.table k.kept;
+    let k = c.first-next.ensures in record {
+      table = pass_of c.args.entries.now c.args.pass.now c.first-next.new.pass c.requires.table k.kept;
       kept = k.kept;
-      faces = run_first c.args.pass.now c.step_behind-next.new.pass (FreeTo c.args.consumer) c.args.list c.step_behind-next.result k.steps;
+      faces = k.faces;
     }
 
-pub returns-in-Some-take_free-clause-walks : goal.returns-in-Some-take_free-clause-walks
-returns-in-Some-take_free-clause-walks g c = got_free (sight c.args.pass.now) (sight c.rows.pass) (sight c.take_free.new.pass) c.args.consumer c.args.list c.in-Some.row (g.C.Freight.goods c.in-Some-take_free.cargo) c.rows.next c.rows.invariant.faces c.in-Some.is c.in-Some-take_free.ensures.takes
+pub take_free-requires-clause-known : goal.take_free-requires-clause-known
+take_free-requires-clause-known g c =
+    let i = c.rows.invariant in
+    let there = faced_known c.args.pass.now c.rows.pass c.args.consumer c.args.list c.args.stop.now c.rows.stop c.in-Some.row c.rows.next i.kept i.faces c.in-Some.is in
+    (there.0, there.1)
 
-pub overflow_add-row : goal.overflow_add-row
-overflow_add-row g c =
-    let e = c.args.entries.now in
-    let low = (row_low e c.rows.pass c.args.list c.in-Some.row c.rows.invariant.table (row_faced (sight c.args.pass.now) c.rows.pass (FreeTo c.args.consumer) c.args.list c.in-Some.row c.rows.next c.rows.invariant.faces c.in-Some.is)).0 in
-    let rows = e.rows in record { fits = omega (arith, low, rows) }
+pub returns-in-Some-take_free-clause-walks : goal.returns-in-Some-take_free-clause-walks
+returns-in-Some-take_free-clause-walks g c =
+    let i = c.rows.invariant in
+    free_got c.args.pass.now c.rows.pass c.take_free.new.pass c.args.consumer c.args.list c.args.stop.now c.rows.stop c.in-Some.row (g.C.Freight.goods c.in-Some-take_free.cargo) c.rows.next c.requires.consumer i.kept i.faces c.in-Some.is c.in-Some-take_free.ensures.tries
 
 pub step_behind-next-requires-in-Some-clause-stop : goal.step_behind-next-requires-in-Some-clause-stop
 step_behind-next-requires-in-Some-clause-stop g c =
-    let e : suc c.in-Some.row ≡ c.in-Some.row + 1 = omega arith in
-    subst (λ (n : ℕ). IsStop (state c.take_free.new.pass) c.args.list n) e
-    (row_tried (sight c.args.pass.now) c.rows.pass c.take_free.new.pass (FreeTo c.args.consumer) c.args.list c.in-Some.row c.rows.next c.rows.invariant.faces c.in-Some.is c.in_default-take_free.ensures.takes)
+    let i = c.rows.invariant in
+    free_stop c.args.pass.now c.rows.pass c.take_free.new.pass c.args.consumer c.args.list c.args.stop.now c.rows.stop c.in-Some.row c.rows.next c.requires.consumer i.kept c.take_free.ensures.kept i.faces c.in-Some.is c.in_default-take_free.ensures.tries
 
 pub rows-smaller : goal.rows-smaller
 rows-smaller g c =
-    let e = c.args.entries.now in
-    let low = (row_low e c.rows.pass c.args.list c.in-Some.row c.rows.invariant.table (row_faced (sight c.args.pass.now) c.rows.pass (FreeTo c.args.consumer) c.args.list c.in-Some.row c.rows.next c.rows.invariant.faces c.in-Some.is)).1 in
-    run_smaller e.shape.rows (sight c.args.pass.now) c.rows.pass c.take_free.new.pass c.step_behind-next-in-Some.new.pass (FreeTo c.args.consumer) c.args.list c.in-Some.row c.rows.next c.step_behind-next-in-Some.result
-    c.rows.invariant.faces c.in-Some.is c.in_default-take_free.ensures.takes c.step_behind-next-in-Some.ensures.steps low
+    let i = c.rows.invariant in
+    free_smaller c.args.pass.now c.rows.pass c.take_free.new.pass c.args.consumer c.args.list c.args.stop.now c.rows.stop c.in-Some.row c.rows.next c.requires.consumer i.kept c.take_free.ensures.kept i.faces c.in-Some.is c.in_default-take_free.ensures.tries
+    c.args.entries.now c.step_behind-next-in-Some.new.pass c.step_behind-next-in-Some.result i.table c.step_behind-next-in-Some.ensures.kept c.step_behind-next-in-Some.ensures.steps
 
 pub rows-preserved : goal.rows-preserved
 rows-preserved g c =
-    let e = c.args.entries.now in
-    let now = c.rows.pass in
+    let i = c.rows.invariant in
     let mid = c.take_free.new.pass in
     let last = c.step_behind-next-in-Some.new.pass in
-    let second = c.step_behind-next-in-Some.ensures in
-    let both = kept_trans now mid last c.take_free.ensures.kept second.kept in
+    let both = kept_trans c.rows.pass mid last c.take_free.ensures.kept c.step_behind-next-in-Some.ensures.kept in
     record {
-      table = pass_of e now last c.rows.invariant.table both;
-      kept = kept_trans c.args.pass.now now last c.rows.invariant.kept both;
-      faces = run_on (sight c.args.pass.now) now mid last (FreeTo c.args.consumer) c.args.list c.in-Some.row c.rows.next c.step_behind-next-in-Some.result c.rows.invariant.faces c.in-Some.is c.in_default-take_free.ensures.takes second.steps;
+      table = pass_of c.args.entries.now c.rows.pass last i.table both;
+      kept = kept_trans c.args.pass.now c.rows.pass last i.kept both;
+      faces = free_faces c.args.pass.now c.rows.pass mid c.args.consumer c.args.list c.args.stop.now c.rows.stop c.in-Some.row c.rows.next c.requires.consumer i.kept c.take_free.ensures.kept i.faces c.in-Some.is c.in_default-take_free.ensures.tries last c.step_behind-next-in-Some.result c.step_behind-next-in-Some.ensures.steps;
     }

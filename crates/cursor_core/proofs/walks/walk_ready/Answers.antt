@@ -30,14 +30,14 @@ pub step_behind-next-requires-in-Some-clause-stop : goal.step_behind-next-requir
 step_behind-next-requires-in-Some-clause-stop g c =
     let e : suc c.in-Some.row ≡ c.in-Some.row + 1 = omega arith in
     subst (λ (n : ℕ). IsStop (state c.take_ready.new.pass) c.args.list n) e
-    (row_tried (sight c.args.pass.now) c.rows.pass c.take_ready.new.pass Ready c.args.list c.in-Some.row c.rows.next c.rows.invariant.faces c.in-Some.is c.in_default-take_ready.ensures.takes)
+    (row_tried (sight c.args.pass.now) c.rows.pass c.take_ready.new.pass Ready c.args.list c.in-Some.row c.rows.next c.rows.invariant.faces c.in-Some.is c.in_default-take_ready.ensures.takes.misses)
 
 pub rows-smaller : goal.rows-smaller
 rows-smaller g c =
     let e = c.args.entries.now in
     let low = (row_low e c.rows.pass c.args.list c.in-Some.row c.rows.invariant.table (row_faced (sight c.args.pass.now) c.rows.pass Ready c.args.list c.in-Some.row c.rows.next c.rows.invariant.faces c.in-Some.is)).1 in
     run_smaller e.shape.rows (sight c.args.pass.now) c.rows.pass c.take_ready.new.pass c.step_behind-next-in-Some.new.pass Ready c.args.list c.in-Some.row c.rows.next c.step_behind-next-in-Some.result
-    c.rows.invariant.faces c.in-Some.is c.in_default-take_ready.ensures.takes c.step_behind-next-in-Some.ensures.steps low
+    c.rows.invariant.faces c.in-Some.is c.in_default-take_ready.ensures.takes.misses c.step_behind-next-in-Some.ensures.steps low
 
 pub rows-preserved : goal.rows-preserved
 rows-preserved g c =
@@ -50,5 +50,5 @@ rows-preserved g c =
     record {
       table = pass_of e now last c.rows.invariant.table both;
       kept = kept_trans c.args.pass.now now last c.rows.invariant.kept both;
-      faces = run_on (sight c.args.pass.now) now mid last Ready c.args.list c.in-Some.row c.rows.next c.step_behind-next-in-Some.result c.rows.invariant.faces c.in-Some.is c.in_default-take_ready.ensures.takes second.steps;
+      faces = run_on (sight c.args.pass.now) now mid last Ready c.args.list c.in-Some.row c.rows.next c.step_behind-next-in-Some.result c.rows.invariant.faces c.in-Some.is c.in_default-take_ready.ensures.takes.misses second.steps;
     }
