@@ -4,5 +4,6 @@ pub mod Dequeuing
 pub mod Running
 pub mod Turning
 pub mod Putting
+pub mod Ringing
 pub mod Naming
 pub mod Depthing

@@ -15,7 +15,7 @@ use Rattle.queue_model.proofs.Prefixes.{prefix_self}
 use Rattle.queue_model.proofs.Stable.{row_stays}
 use Rattle.acts_core.specs.Calls.{CallFind, IsFound}
 use Rattle.acts_core.specs.Meaning.{Called}
-use Rattle.acts_core.specs.Sight.{Sight, silent_lists}
+use Rattle.acts_core.specs.Sight.{Build, Listed, Sight}
 use Rattle.acts_core.specs.Steps.{Stepped, SameRights}
 use Rattle.acts_core.specs.Walks.{Named, Misses, Faces, Done}
 use Rattle.acts_core.proofs.Answering.{find_none, find_some}
@@ -139,16 +139,16 @@ comes old now new id l r next f is s =
 
 -- Over all lists
 
-pub finds_some : (rows id l r : ℕ) (old now new : Sight) → 0 < l → Done old now (Named id) l old.opening.lists → Comes now new id (l - 1) r → Called (silent_lists rows) old new (CallFind id) (IsFound (Some r))
-finds_some rows id l r old now new some d c =
+pub finds_some : (build : Build) (id l r : ℕ) (old now new : Sight) → build.kind ≡ Listed → 0 < l → Done old now (Named id) l old.opening.lists → Comes now new id (l - 1) r → Called build old new (CallFind id) (IsFound (Some r))
+finds_some build id l r old now new listed some d c =
     let from : suc (l - 1) ≡ l = from_pred l some in
     let d' : Done old now (Named id) (suc (l - 1)) old.opening.lists = subst (λ (n : ℕ). Done old now (Named id) n old.opening.lists) (sym from) d in
     let s = done_got old now new (Named id) (suc (l - 1)) old.opening.lists (l - 1) r [] d' (d'.lower (l - 1) (omega arith)) c.reached in
     let opening : now.opening ≡ old.opening = ap (λ (v : Sight). v.opening) d.steps.rest in
     let found : row_at (after old.opening new.seen) r ≡ Some c.named.row = subst (λ (o : Queue). row_at (after o new.seen) r ≡ Some c.named.row) opening c.named.found in
-    find_some (silent_lists rows) id (l - 1) r old new new.seen c.named.row refl s (record { later = s.steps.grows; early = prefix_self new.seen }) found c.list c.named.same c.named.there
+    find_some build id (l - 1) r old new new.seen c.named.row listed s (record { later = s.steps.grows; early = prefix_self new.seen }) found c.list c.named.same c.named.there
 
-pub finds_none : (rows id l : ℕ) (old new : Sight) → l ≤ 0 → Done old new (Named id) l old.opening.lists → Called (silent_lists rows) old new (CallFind id) (IsFound None)
-finds_none rows id l old new low d =
+pub finds_none : (build : Build) (id l : ℕ) (old new : Sight) → build.kind ≡ Listed → l ≤ 0 → Done old new (Named id) l old.opening.lists → Called build old new (CallFind id) (IsFound None)
+finds_none build id l old new listed low d =
     let e : l ≡ 0 = omega (arith, low) in
-    find_none (silent_lists rows) id old new refl (subst (λ (n : ℕ). Done old new (Named id) n old.opening.lists) e d)
+    find_none build id old new listed (subst (λ (n : ℕ). Done old new (Named id) n old.opening.lists) e d)

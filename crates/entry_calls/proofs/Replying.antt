@@ -59,24 +59,11 @@ module _ {C : Type 0} (e : Entries C) (old new : Pass) (keeps : Keeps old new) (
       called_by (build_of e) (sight old) (sight new) (CallLock row) (IsStolen s) (t ∷ []) refl (stepped old new [] (t ∷ []) keeps.kept l.did l.shown_is)
       (record { other = other; moment = seen new; saw = l.saw }) tt keeps.allowance keeps.share
 
-  -- Unlocks and releases
+  -- Unlocks
 
   pub unlocks : (l : Load) (x : Row) (added : List Tried) → Changed old new (acts.Unlock row l.count) row x added → Called (build_of e) (sight old) (sight new) (CallUnlock row l) IsDone
   unlocks l x added c =
       called_by (build_of e) (sight old) (sight new) (CallUnlock row l) IsDone added refl (stepped old new (acts.Unlock row l.count ∷ []) added keeps.kept c.did c.shown_is) tt tt keeps.allowance keeps.share
-
-  -- a row that was there is there later, with its mask
-  mask_later : (x : Row) → row_at (after (opening old) (seen old)) row ≡ Some x → IsPrefix (seen old) (seen new) → HasMask (after (opening old) (seen new)) row x.slip.mask
-  mask_later x found p =
-      let y = row_stays (after (opening old) (seen old)) p.0 row x found in
-      let same : after (after (opening old) (seen old)) p.0 ≡ after (opening old) (seen new) = sym (after-append (opening old) (seen old) p.0) ∙ ap (after (opening old)) p.1 in
-      (y.0, subst (λ (q : Queue). row_at q row ≡ Some y.0) same y.1, ap (λ (s : Slip). s.mask) y.2.slip)
-
-  pub releases : (l : Load) (known x : Row) (added : List Tried) → row_at (after (opening old) (seen old)) row ≡ Some known → Changed old new (acts.Rel row l.count) row x added
-      → Called (build_of e) (sight old) (sight new) (CallRelease row l) (IsReleased known.slip.mask)
-  releases l known x added found c =
-      called_by (build_of e) (sight old) (sight new) (CallRelease row l) (IsReleased known.slip.mask) added refl (stepped old new (acts.Rel row l.count ∷ []) added keeps.kept c.did c.shown_is)
-      (mask_later known found c.did.prefix) tt keeps.allowance keeps.share
 
   -- Deletions
 

@@ -39,7 +39,7 @@ use Rattle.entry_calls.proofs.Replying.{keeps_trans}
 -- In a row
 
 -- the steps of a later pass, as those of an earlier one
-steps_back : (a b c : Pass) (ds : ℕ → List Deed) → Kept a b → Steps (opening b) b.caller (callers b) (consumers b) (seen b) (seen c) (ds b.caller) → Steps (opening a) a.caller (callers a) (consumers a) (seen b) (seen c) (ds a.caller)
+pub steps_back : (a b c : Pass) (ds : ℕ → List Deed) → Kept a b → Steps (opening b) b.caller (callers b) (consumers b) (seen b) (seen c) (ds b.caller) → Steps (opening a) a.caller (callers a) (consumers a) (seen b) (seen c) (ds a.caller)
 steps_back a b c ds k s = subst (λ (z : Queue × ℕ × List ℕ × List ℕ). Steps z.0 z.1 z.2 z.3 (seen b) (seen c) (ds z.1)) (λ i. (k.opening i, k.caller i, k.callers i, k.consumers i)) s
 
 pub ran_then : (a b c : Pass) (ys : List Act) → Ran a b [] → Ran b c ys → Ran a c ys

@@ -3,6 +3,7 @@
 #![tactic(auto)]
 
 mod appends;
+mod bells;
 mod depths;
 mod finding;
 mod locks;

@@ -8,6 +8,7 @@ ghost use Rattle.acts_core.specs.Replies.{of_lock, of_steal};
 ghost use Rattle.entry_table.specs.Passes.{seen, state};
 ghost use Rattle.entry_table.specs.Sights.{build_of, Serves, sight};
 
+use crate::bells::ring_row;
 use acts_core::{Freight, Locking, Stealing};
 use entry_table::{Entries, Pass};
 use link_core::places::state_of;
@@ -39,7 +40,7 @@ pub fn unlock<C: Freight>(entries: &Entries<C>, pass: &mut Pass, row: u64, cargo
     entries.bring_row(pass, row, Change::Unlock, cargo);
 }
 
-/// Makes a held row available again, with its cargo.
+/// Makes a held row available again, with its cargo, and then rings the bell of each consumer that wants it.
 pub fn release<C: Freight>(entries: &Entries<C>, pass: &mut Pass, row: u64, cargo: C)
     requires serves { Serves entries.now pass.old }
     requires handed { Handed (state pass.old) pass.old.caller row (C.goods cargo) }
@@ -48,6 +49,7 @@ pub fn release<C: Freight>(entries: &Entries<C>, pass: &mut Pass, row: u64, carg
         (CallRelease row (C.goods cargo)) (IsReleased mask) }
 {
     entries.bring_row(pass, row, Change::Rel, cargo);
+    ring_row(entries, pass, row);
 }
 
 /// Takes a row that somebody left. It is `NotStealable` exactly where nobody had left the row, and `Moved`

@@ -43,6 +43,10 @@ served e old new s k legal = record {
 pub opening_lists : {C : Type 0} (e : Entries C) (p : Pass) → IsPassOf e p → (opening p).lists ≡ e.shape.lists
 opening_lists e p s = sym (lists_stay (opening p) (seen p)).0 ∙ p.within.lists ∙ ap (λ (z : Shape). z.lists) s.shape
 
+-- and its consumers
+pub opening_consumers : {C : Type 0} (e : Entries C) (p : Pass) → IsPassOf e p → (opening p).consumers ≡ e.shape.consumers
+opening_consumers e p s = sym (lists_stay (opening p) (seen p)).1 ∙ p.within.consumers ∙ ap (λ (z : Shape). z.consumers) s.shape
+
 -- a row that was known is known later
 pub known_later : (old new : Pass) (row : ℕ) → Kept old new → Did old new [] → (x : Row) × (row_at (after (opening old) (seen old)) row ≡ Some x) → (y : Row) × (row_at (after (opening new) (seen new)) row ≡ Some y)
 known_later old new row k d there =

@@ -1,15 +1,16 @@
 -- a table and its passes, as the contracts of every queue see them
-use Rattle.queue_model.specs.History.{Legal}
+use Rattle.std.specs.Prelude.{true}
 use Rattle.queue_model.specs.Sound.{IsOpening}
-use Rattle.acts_core.specs.Sight.{Build, silent_lists, Sight}
+use Rattle.queue_model.specs.History.{Legal}
+use Rattle.acts_core.specs.Sight.{Build, Listed, Sight}
 use Rattle.entry_table.specs.declared.entries.Entries.{Entries}
 use Rattle.entry_table.specs.declared.pass.Pass.{Pass}
 use Rattle.entry_table.specs.Passes.{IsPassOf, view, opening, seen, shown, allowance, share, callers, consumers}
 use Rattle.entry_table.specs.Views.{rest_of}
 
--- what contracts see of a table: lists, and no bells
+-- what contracts see of a table: lists, whose calls ring bells and take them
 abbrev pub build_of : {C : Type 0} → Entries C → Build
-build_of e = silent_lists e.shape.rows
+build_of e = record { kind = Listed; bells = true; rows = e.shape.rows }
 
 -- what contracts see of a pass: the callers behind its own have ended
 abbrev pub sight : Pass → Sight

@@ -34,4 +34,11 @@ impl<C: Freight> Entries<C> {
     {
         self.shape.lists
     }
+
+    /// How many consumers the table has.
+    pub fn consumers(&self) -> u32
+        ensures { result ≡ self.now.shape.consumers }
+    {
+        self.shape.consumers
+    }
 }

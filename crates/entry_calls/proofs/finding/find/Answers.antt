@@ -1,8 +1,8 @@
-use Rattle.std.proofs.Common.{◌≡◌, sym, ◌∙◌, arith}
+use Rattle.std.proofs.Common.{◌≡◌, refl, sym, ◌∙◌, arith}
 use Rattle.acts_core.specs.Walks.{Named}
 use Rattle.acts_core.proofs.Coming.{none_done, less_left}
 use Rattle.entry_table.specs.Passes.{opening}
-use Rattle.entry_table.specs.Sights.{sight}
+use Rattle.entry_table.specs.Sights.{build_of, sight}
 use Rattle.entry_table.proofs.Later.{kept_same, kept_trans, pass_of, opening_lists}
 use Rattle.entry_calls.proofs.Naming.{finds_some, finds_none}
 use Rattle.entry_calls.proofs.finding.find.Goals as goal
@@ -24,7 +24,7 @@ find_in-requires-clause-list g c =
 
 pub returns-in-Some-clause-called : goal.returns-in-Some-clause-called
 returns-in-Some-clause-called g c =
-    finds_some c.args.entries.now.shape.rows c.args.id c.lists.list c.in-Some.row (sight c.args.pass.now) (sight c.lists.pass) (sight c.find_in.new.pass) c.lists-test.true c.lists.invariant.done c.in-Some.ensures.finds
+    finds_some (build_of c.args.entries.now) c.args.id c.lists.list c.in-Some.row (sight c.args.pass.now) (sight c.lists.pass) (sight c.find_in.new.pass) refl c.lists-test.true c.lists.invariant.done c.in-Some.ensures.finds
 
 pub lists-preserved : goal.lists-preserved
 lists-preserved g c =
@@ -38,4 +38,4 @@ lists-preserved g c =
 
 pub returns-clause-called : goal.returns-clause-called
 returns-clause-called g c =
-    finds_none c.args.entries.now.shape.rows c.args.id c.lists.list (sight c.args.pass.now) (sight c.lists.pass) c.lists-test.false c.lists.invariant.done
+    finds_none (build_of c.args.entries.now) c.args.id c.lists.list (sight c.args.pass.now) (sight c.lists.pass) refl c.lists-test.false c.lists.invariant.done
