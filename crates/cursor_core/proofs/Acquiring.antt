@@ -166,7 +166,7 @@ tries_free old mid new c row mask y None k a s d shows e bit there t =
     let us = entry (steps.Load (names.Draft row drafts.Mask)) mask mask (seen mid) ∷ [] in
     let later = row_stays (after (opening mid) (seen mid)) m.steps.grows.0 row y there in
     let found : row_at (after (opening mid) (seen new)) row ≡ Some later.0 = subst (λ (q : Queue). row_at q row ≡ Some later.0) (after_rest (opening mid) (seen mid) (seen new) m.steps.grows) later.1 in
-    let one = t.looks in
+    let one = t.looks in let none = t.hops in
     record {
       added = us ++ m.added;
       goes = record {
@@ -180,11 +180,12 @@ tries_free old mid new c row mask y None k a s d shows e bit there t =
         ap (λ (b : Bool). b && (bit_at later.0.slip.mask c == 1)) (m.fails later.0 found),
       );
       looks = omega (arith, one, looks-append us m.added);
-      hops = hops-append us m.added ∙ t.hops;
+      hops = omega (arith, none, hops-append us m.added);
     }
 tries_free old mid new c row mask y (Some load) k a s d shows e bit there t =
     let us = entry (steps.Load (names.Draft row drafts.Mask)) mask mask (seen mid) ∷ [] in
     let mask_then = later_mask old mid row mask t.moment t.hands.row y k shows there t.later t.hands.found in
+    let one = t.looks in let none = t.hops in
     record {
       added = us ++ t.added;
       goes = record {
@@ -199,8 +200,8 @@ tries_free old mid new c row mask y (Some load) k a s d shows e bit there t =
       };
       hands = record { row = t.hands.row; found = subst (λ (o : Queue). row_at (after o t.moment) row ≡ Some t.hands.row) k.opening t.hands.found; same = t.hands.same };
       free = wanted_free c t.hands.row t.ready (ap (λ (n : ℕ). bit_at n c) mask_then ∙ bit);
-      looks = looks-append us t.added ∙ t.looks;
-      hops = hops-append us t.added ∙ t.hops;
+      looks = omega (arith, one, looks-append us t.added);
+      hops = omega (arith, none, hops-append us t.added);
     }
 
 -- Bells and places

@@ -1,5 +1,5 @@
 -- steps of a walk, as the table's calls tell them
-use Rattle.std.proofs.Common.{◌≡◌, ℕ, zero, suc, ◌+◌, ◌-◌, ◌≤◌, ◌<◌, Option, Some, None, List, [], ◌∷◌, sym, ap, ◌∙◌, subst, arith}
+use Rattle.std.proofs.Common.{◌≡◌, ℕ, zero, suc, ◌+◌, ◌-◌, ◌≤◌, ◌<◌, Option, Some, None, List, [], ◌∷◌, slice_index, sym, ap, ◌∙◌, subst, arith}
 use mathlib.Core.List.{IsPrefix, Mem}
 use Rattle.queue_model.specs.declared.deeds.Act.TheVariants as acts
 use Rattle.queue_model.specs.declared.deeds.Deed.{Deed}
@@ -16,11 +16,14 @@ use Rattle.entry_table.specs.declared.pass.Pass.{Pass}
 use Rattle.entry_table.specs.Bells.{TakesBell}
 use Rattle.entry_table.specs.Passes.{IsPassOf, Kept, KeepsRights, Did, consumers, opening, seen, state, view}
 use Rattle.entry_table.specs.Sights.{sight}
+use Rattle.entry_table.proofs.Later.{opening_lists}
 use Rattle.scavenge_core.specs.Skips.{StepsOver}
 use Rattle.scavenge_core.proofs.Stepping.{row_low}
 use Rattle.cursor_core.specs.Goes.{TookBell, KnowsPlace, Runs, TriesRow}
 use Rattle.cursor_core.specs.Truths.{Good}
-use Rattle.cursor_core.specs.Walking.{Walking, Facing, WalkGot, Faces}
+use Rattle.cursor_core.specs.declared.cursor.Cursor.{Cursor}
+use Rattle.cursor_core.specs.Listing.{Done}
+use Rattle.cursor_core.specs.Walking.{Walking, Facing, WalkGot, WalkEnd, Faces}
 use Rattle.cursor_core.proofs.Acquiring.{took_bell, runs_of}
 use Rattle.cursor_core.proofs.Going.{stop_on}
 use Rattle.cursor_core.proofs.Ringing.{rung_none, rung_head, rung_later, rung_before, stop_has}
@@ -104,3 +107,23 @@ module _ (old now new : Pass) (c l u w r : ℕ) (next : Option ℕ) (mem : Mem c
       subst (λ (z : Queue × Queue). left e.shape.rows z.1 result < left e.shape.rows z.0 next) (λ i. (to_now i, to_last i))
       (loop_smaller (opening old) e.shape.rows (sight old) (sight now) (sight new) (sight last) c l u w r next result f is tried (run last result s)
       (subst (λ (q : Queue). place_at q r < e.shape.rows) (sym to_now) low))
+
+-- The lists
+
+-- a cursor has a place in each list
+pub lists_few : {C : Type 0} (e : Entries C) (p : Pass) → IsPassOf e p → (opening p).lists ≤ 10
+lists_few e p table = let all = opening_lists e p table in let few = e.lists in omega (arith, all, few)
+
+-- the stop in the next list is good
+pub list_good : (old now : Pass) (l : ℕ) (k kn : Cursor) → Kept old now → kn.consumer ≡ k.consumer → 0 < l → Done (opening old) (sight old) (sight now) k.consumer l k.stops kn.stops → Good (opening now) kn.consumer (l - 1) (slice_index kn.stops (l - 1)) (seen now)
+list_good old now l k kn kept same some d =
+    let low = d.low in
+    subst (λ (o : Queue). Good o kn.consumer (l - 1) (slice_index kn.stops (l - 1)) (seen now)) (sym kept.opening)
+    (subst (λ (c : ℕ). Good (opening old) c (l - 1) (slice_index kn.stops (l - 1)) (seen now)) (sym same) (d.holds (l - 1) (omega (arith, low, some))))
+
+-- the walk of a list, as the call goes by it
+pub got_of : (old now new : Pass) (k kn : Cursor) (l u w r : ℕ) (load : Load) → Kept old now → kn.consumer ≡ k.consumer → WalkGot (opening now) (sight now) (sight new) kn.consumer l u w r load → WalkGot (opening old) (sight now) (sight new) k.consumer l u w r load
+got_of old now new k kn l u w r load kept same e = subst (λ (z : Queue × ℕ). WalkGot z.0 (sight now) (sight new) z.1 l u w r load) (λ i. (kept.opening i, same i)) e
+
+pub end_of : (old now new : Pass) (k kn : Cursor) (l u w : ℕ) → Kept old now → kn.consumer ≡ k.consumer → WalkEnd (opening now) (sight now) (sight new) kn.consumer l u w → WalkEnd (opening old) (sight now) (sight new) k.consumer l u w
+end_of old now new k kn l u w kept same e = subst (λ (z : Queue × ℕ). WalkEnd z.0 (sight now) (sight new) z.1 l u w) (λ i. (kept.opening i, same i)) e

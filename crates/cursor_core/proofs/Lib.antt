@@ -12,5 +12,6 @@ pub mod Acquiring
 pub mod AtPass
 pub mod Getting
 pub mod Outlasting
+pub mod Slots
 pub mod Runs
 pub mod Calling

@@ -30,7 +30,7 @@ use Rattle.acts_core.proofs.Sparing.{after_rest}
 use Rattle.acts_core.proofs.Stepping.{called_by}
 use Rattle.cursor_core.specs.declared.cursor.Cursor.{Cursor}
 use Rattle.cursor_core.specs.Goes.{Goes}
-use Rattle.cursor_core.specs.Listing.{ringing_lists, WalkedRows, Bounded, IsBehind, WalkedTo, WalkedOut, Done}
+use Rattle.cursor_core.specs.Listing.{WalkedRows, Bounded, IsBehind, WalkedTo, WalkedOut, Done}
 use Rattle.scavenge_core.specs.Shown.{looks, hops}
 use Rattle.cursor_core.specs.Truths.{Good, TrueOf, TrueNow}
 use Rattle.cursor_core.specs.Walking.{belled, start_of, Spends, WalkGot, WalkEnd}
@@ -220,7 +220,7 @@ done_end o old now new c k w first stops mem inside d e =
 -- The call
 
 -- a cursor is true where each stop is good, and where its list was walked last
-module _ (o : Queue) (old now new : Sight) (c l w : ℕ) (k k' : Cursor) (stops : List ℕ) (mem : Mem c old.consumers) (inside : l < length stops) (d : Done o old now c (suc l) k.stops stops) where
+module _ (o : Queue) (old now new : Sight) (c l w : ℕ) (k : Cursor) (stops : List ℕ) (mem : Mem c old.consumers) (inside : l < length stops) (d : Done o old now c (suc l) k.stops stops) where
   mine : Mem c now.consumers
   mine = goes_mem o old now (takes_down c (suc l) (o.lists - suc l)) d.added c d.goes mem
 
@@ -271,6 +271,9 @@ module _ (o : Queue) (old now new : Sight) (c l w : ℕ) (k k' : Cursor) (stops 
 
 -- what a call of next answers, on a queue whose calls take bells
 
+abbrev ringing_lists : ℕ → Build
+ringing_lists rows = record { kind = Listed; bells = true; rows = rows }
+
 called_got : (rows c l r : ℕ) (load : Load) (old new : Sight) (added : List Tried) → Goes old.opening old new (takes_down c l (old.opening.lists - l) ++ Acq r ∷ []) added → NextGot (Showed added) (belled old.opening) old.caller old.seen new.seen c r l load → Called (ringing_lists rows) old new (CallNext c) (IsGot r l load)
 called_got rows c l r load old new added s n = called_by (ringing_lists rows) old new (CallNext c) (IsGot r l load) added refl s.steps n tt s.rights.allowance s.rights.share
 
@@ -284,8 +287,8 @@ loop_end o old now new c l w first stops mem long some d e =
     done_end o old now new c (l - 1) w first stops mem (omega (arith, long, some)) (subst (λ (n : ℕ). Done o old now c n first stops) (sym (from_pred l some)) d) e
 
 -- a row was got: the call, the cursor and what was walked
-module _ (rows : ℕ) (old now new : Sight) (l w r : ℕ) (k k' : Cursor) (stops : List ℕ) (load : Load) (mem : Mem k.consumer old.consumers) (long : l ≤ length stops) (some : 0 < l) (d : Done old.opening old now k.consumer l k.stops stops)
-    (e : WalkGot old.opening now new k.consumer (l - 1) (slice_index stops (l - 1)) w r load) (same : k'.consumer ≡ k.consumer) (is : k'.stops ≡ slice_set stops (l - 1) w) where
+module _ (rows : ℕ) (old now new : Sight) (l w r : ℕ) (k : Cursor) (stops : List ℕ) (load : Load) (mem : Mem k.consumer old.consumers) (long : l ≤ length stops) (some : 0 < l) (d : Done old.opening old now k.consumer l k.stops stops)
+    (e : WalkGot old.opening now new k.consumer (l - 1) (slice_index stops (l - 1)) w r load) where
   abbrev o : Queue
   o = old.opening
 
@@ -299,21 +302,19 @@ module _ (rows : ℕ) (old now new : Sight) (l w r : ℕ) (k k' : Cursor) (stops
   before = subst (λ (n : ℕ). Done o old now c n k.stops stops) (sym (from_pred l some)) d
 
   pub loop_called : (list : ℕ) × Called (ringing_lists rows) old new (CallNext c) (IsGot r list load)
-  loop_called = (l - 1, called_got rows c (l - 1) r load old new (before.added ++ e.added) (all_goes o old now new c (l - 1) w k k' stops mem below before r load e) (got_next o old now new c (l - 1) w k k' stops mem below before r load e))
+  loop_called = (l - 1, called_got rows c (l - 1) r load old new (before.added ++ e.added) (all_goes o old now new c (l - 1) w k stops mem below before r load e) (got_next o old now new c (l - 1) w k stops mem below before r load e))
 
-  pub loop_true : TrueOf o k'.consumer k'.stops new.seen
-  loop_true =
-      subst (λ (h : ℕ). TrueOf o h k'.stops new.seen) (sym same)
-      (subst (λ (z : List ℕ). TrueOf o c z new.seen) (sym is) (got_true o old now new c (l - 1) w k k' stops mem below before r load e))
+  pub loop_true : TrueOf o c (slice_set stops (l - 1) w) new.seen
+  loop_true = got_true o old now new c (l - 1) w k stops mem below before r load e
 
   goes_got : Goes o old new (takes_down c (l - 1) (o.lists - (l - 1)) ++ Acq r ∷ []) (before.added ++ e.added)
-  goes_got = all_goes o old now new c (l - 1) w k k' stops mem below before r load e
+  goes_got = all_goes o old now new c (l - 1) w k stops mem below before r load e
 
   caller : now.caller ≡ old.caller
-  caller = same_caller o old now new c (l - 1) w k k' stops mem below before
+  caller = same_caller o old now new c (l - 1) w k stops mem below before
 
-  pub loop_walked : WalkedTo old new k k' r
-  loop_walked =
+  pub loop_walked : (k' : Cursor) → k'.stops ≡ slice_set stops (l - 1) w → WalkedTo old new k k' r
+  loop_walked k' is =
       let grows = e.goes.steps.grows in
       let legal = goes_legal o old new (takes_down c (l - 1) (o.lists - (l - 1)) ++ Acq r ∷ []) (before.added ++ e.added) goes_got in
       let at : slice_index (slice_set stops (l - 1) w) (l - 1) ≡ suc r = get_or-set_same stops (l - 1) w 0 below ∙ e.stands in
@@ -340,18 +341,18 @@ module _ (rows : ℕ) (old now new : Sight) (l w r : ℕ) (k k' : Cursor) (stops
       }
 
 -- none was got
-module _ (rows : ℕ) (old new : Sight) (l : ℕ) (k k' : Cursor) (none : l ≤ 0) (d : Done old.opening old new k.consumer l k.stops k'.stops) (same : k'.consumer ≡ k.consumer) where
-  all : Done old.opening old new k.consumer 0 k.stops k'.stops
-  all = let e : l ≡ 0 = omega (arith, none) in subst (λ (n : ℕ). Done old.opening old new k.consumer n k.stops k'.stops) e d
+module _ (rows : ℕ) (old new : Sight) (l : ℕ) (k : Cursor) (stops : List ℕ) (none : l ≤ 0) (d : Done old.opening old new k.consumer l k.stops stops) where
+  all : Done old.opening old new k.consumer 0 k.stops stops
+  all = let e : l ≡ 0 = omega (arith, none) in subst (λ (n : ℕ). Done old.opening old new k.consumer n k.stops stops) e d
 
   pub end_called : (list : ℕ) × Called (ringing_lists rows) old new (CallNext k.consumer) IsEmpty
   end_called = (0, called_empty rows k.consumer old new all.added all.goes (λ m high. all.passed m (omega arith) high))
 
-  pub end_true : TrueOf old.opening k'.consumer k'.stops new.seen
-  end_true = subst (λ (h : ℕ). TrueOf old.opening h k'.stops new.seen) (sym same) (now_true old.opening k.consumer k'.stops new.seen all.holds)
+  pub end_true : TrueOf old.opening k.consumer stops new.seen
+  end_true = now_true old.opening k.consumer stops new.seen all.holds
 
-  pub end_walked : WalkedOut old new k k'
-  end_walked = record {
+  pub end_walked : (k' : Cursor) → k'.stops ≡ stops → WalkedOut old new k k'
+  end_walked k' is = record {
     bounded = record { added = all.added; shown = ap (λ (v : Sight). v.shown) all.goes.steps.rest; rows = all.rows; walked = all.walked; looks = all.looks; hops = all.hops };
-    behind = λ m high. all.behind m (omega arith) high;
+    behind = λ m high. subst (λ (z : List ℕ). IsBehind old.opening old.seen new.seen m (slice_index z m)) (sym is) (all.behind m (omega arith) high);
   }

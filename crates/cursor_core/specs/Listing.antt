@@ -1,5 +1,5 @@
 -- cursors that are true of a pass, and what a call of next walked
-use Rattle.std.specs.Prelude.{true, ◌≡◌, ◌≢◌, ℕ, ◌+◌, ◌*◌, ◌-◌, ◌<◌, ◌≤◌, zero, suc, Some, List, ◌++◌, length, slice_index}
+use Rattle.std.specs.Prelude.{◌≡◌, ◌≢◌, ℕ, ◌+◌, ◌*◌, ◌-◌, ◌<◌, ◌≤◌, zero, suc, Some, List, ◌++◌, length, slice_index}
 use Rattle.queue_model.specs.declared.deeds.Act.TheVariants.{Take}
 use Rattle.queue_model.specs.declared.deeds.Deed.{Deed}
 use Rattle.queue_model.specs.declared.queues.Queue.{Queue}
@@ -14,17 +14,13 @@ use Rattle.acts_core.specs.declared.cargoes.Next.TheVariants.{Got, Empty}
 use Rattle.acts_core.specs.Lists.{Passed}
 use Rattle.acts_core.specs.Moments.{JustBefore}
 use Rattle.acts_core.specs.Owed.{Has}
-use Rattle.acts_core.specs.Sight.{Listed, Build, Sight, Forgotten, known}
+use Rattle.acts_core.specs.Sight.{Sight, Forgotten, known}
 use Rattle.acts_core.specs.Walks.{reach, IsOfList}
 use Rattle.cursor_core.specs.declared.cursor.Cursor.{Cursor}
 use Rattle.cursor_core.specs.Goes.{Goes}
 use Rattle.scavenge_core.specs.Shown.{looks, hops}
 use Rattle.cursor_core.specs.Truths.{TrueOf, TrueNow}
 use Rattle.cursor_core.specs.Walking.{belled, start_of}
-
--- a listed queue whose calls ring and take bells
-abbrev pub ringing_lists : ℕ → Build
-ringing_lists rows = record { kind = Listed; bells = true; rows = rows }
 
 -- the cursor is true of the pass
 abbrev pub IsTrueOf : Sight → Cursor → Type 0

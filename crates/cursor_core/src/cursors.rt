@@ -6,7 +6,7 @@ ghost use Rattle.acts_core.specs.Meaning.{Called};
 ghost use Rattle.acts_core.specs.Replies.{of_next};
 ghost use Rattle.entry_table.specs.Passes.{Kept};
 ghost use Rattle.entry_table.specs.Sights.{sight, build_of, Serves};
-ghost use Rattle.cursor_core.specs.Listing.{ringing_lists, IsTrueOf, WalksLists};
+ghost use Rattle.cursor_core.specs.Listing.{IsTrueOf, WalksLists};
 
 use crate::cursor::{Cursor, MOST_LISTS};
 use crate::walks::{walk_free, walk_ready};
@@ -38,7 +38,7 @@ pub fn next<C: Freight>(entries: &Entries<C>, pass: &mut Pass, cursor: &mut Curs
     requires truth { IsTrueOf (sight pass.old) cursor.old }
     ensures serves { Serves entries.now pass.new }
     ensures kept { Kept pass.old pass.new }
-    ensures called { (list : ℕ) × Called (ringing_lists entries.now.shape.rows) (sight pass.old) (sight pass.new)
+    ensures called { (list : ℕ) × Called (build_of entries.now) (sight pass.old) (sight pass.new)
         (CallNext cursor.old.consumer) (of_next C.goods list result) }
     ensures consumer { cursor.new.consumer ≡ cursor.old.consumer }
     ensures truth { IsTrueOf (sight pass.new) cursor.new }

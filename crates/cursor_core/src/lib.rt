@@ -4,9 +4,12 @@
 
 mod cursor;
 mod cursors;
+mod handing;
+mod held;
 pub mod laws;
 mod takes;
 mod walks;
 
 pub use cursor::{Cursor, MOST_LISTS};
 pub use cursors::{next, oldest};
+pub use held::{HeldCursors, MOST_CONSUMERS};

@@ -1,0 +1,1 @@
+use Rattle.cursor_core.proofs.held.HeldCursors.take_in.Goals as goal
