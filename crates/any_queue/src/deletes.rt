@@ -4,6 +4,7 @@ ghost use Rattle.acts_core.specs.Calls.{CallDelete, IsDone};
 ghost use Rattle.acts_core.specs.Meaning.{Called};
 ghost use Rattle.entry_table.specs.Passes.{seen};
 ghost use Rattle.entry_table.specs.Sights.{build_of, Serves, sight};
+ghost use Rattle.any_queue.specs.Scavenging.{Deletes};
 
 use acts_core::Freight;
 use entry_table::{Entries, Pass};
@@ -15,6 +16,7 @@ pub(crate) fn delete_listed<C: Freight>(entries: &Entries<C>, pass: &mut Pass, r
     requires dequeued { HasDequeued pass.old.caller row (seen pass.old) }
     ensures serves { Serves entries.now pass.new }
     ensures called { Called (build_of entries.now) (sight pass.old) (sight pass.new) (CallDelete row) IsDone }
+    ensures scavenges { Deletes pass.old pass.new row }
 {
     entry_calls::delete(entries, pass, row);
     on_deleted(entries, pass, row);

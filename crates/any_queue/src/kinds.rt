@@ -20,7 +20,12 @@ pub enum AnyPass {
 }
 
 impl<C: Cargo + Sync> SharedQueue<C> for AnyQueue<C> {
+    ghost use Rattle.std.specs.Prelude.{◌≡◌};
+    ghost use Rattle.acts_core.specs.Asked.{HasDequeued};
+    ghost use Rattle.acts_core.specs.Calls.{CallDelete, IsDone};
+    ghost use Rattle.acts_core.specs.Meaning.{Called};
     ghost use Rattle.any_queue.specs.Kinds.{build_in, sight_in, ServesAny, any_opens};
+    ghost use Rattle.any_queue.specs.Scavenging.{DeletesAny};
 
     type Pass = AnyPass;
 
@@ -132,7 +137,14 @@ impl<C: Cargo + Sync> SharedQueue<C> for AnyQueue<C> {
         }
     }
 
-    fn delete(&self, pass: &mut AnyPass, row: u64) {
+    fn delete(&self, pass: &mut AnyPass, row: u64)
+        requires serves { ServesAny self.now pass.old }
+        requires dequeued { HasDequeued (sight_in pass.old).caller row (sight_in pass.old).seen }
+        ensures serves { ServesAny self.now pass.new }
+        ensures called { Called (build_in self.now) (sight_in pass.old) (sight_in pass.new)
+            (CallDelete row) IsDone }
+        ensures scavenges { DeletesAny pass.old pass.new row }
+    {
         match self {
             AnyQueue::Listed(entries) => match pass {
                 AnyPass::Listed(pass) => delete_listed(entries, pass, row),

@@ -10,3 +10,6 @@ returns-clause-serves g c = serves_deleted c.args.entries.now c.delete.new.pass 
 
 pub returns-clause-called : goal.returns-clause-called
 returns-clause-called g c = deletes_on c.args.entries.now c.args.pass.now c.delete.new.pass c.on_deleted.new.pass c.args.row c.delete.ensures.called c.on_deleted.ensures.deleted
+
+pub returns-clause-scavenges : goal.returns-clause-scavenges
+returns-clause-scavenges g c = record { mid = c.delete.new.pass; kept = c.delete.ensures.kept; shown = c.delete.ensures.shown; then = c.on_deleted.ensures.deleted }
