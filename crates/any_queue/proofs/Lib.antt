@@ -1,3 +1,4 @@
 pub mod Parting
+pub mod Holding
 pub mod Deleting
 mod Sharing

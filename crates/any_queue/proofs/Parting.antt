@@ -5,7 +5,7 @@ use Rattle.queue_model.specs.declared.deeds.Deed.{Deed}
 use Rattle.queue_model.specs.declared.rows.Slip.{Slip}
 use Rattle.queue_model.specs.History.{own, after}
 use Rattle.acts_core.specs.Load.{Load}
-use Rattle.acts_core.specs.Sight.{Build, silent_lists, Sight}
+use Rattle.acts_core.specs.Sight.{Build, Sight}
 use Rattle.entry_table.specs.declared.entries.Entries.{Entries}
 use Rattle.entry_table.specs.declared.pass.Pass.{Pass}
 use Rattle.entry_table.specs.declared.view.Shape.{Shape}
@@ -18,6 +18,7 @@ use Rattle.entry_table.specs.Views.{Has, caller_of, rest_of}
 use Rattle.entry_table.proofs.Concerning.{in_has}
 use Rattle.entry_table.proofs.Sighting.{mem_in, others_stay}
 use Rattle.entry_table.proofs.Serving.{sight_boss, sight_made, sight_joined}
+use Rattle.any_queue.specs.Kinds.{belled_lists}
 use Rattle.any_queue.specs.Parting.{IsFresh, MayPart, IsSplit, IsJoined, IsLast}
 
 -- Members
@@ -50,7 +51,7 @@ idle_ended p s1 t k m =
 
 pub is_fresh : {C : Type 0} (load : C → Load) (lists rows consumed : ℕ) (start : List (Slip × C)) (e : Entries C) (p : Pass) → IsMade load lists rows consumed start e p → IsFresh load lists rows consumed start (build_of e) (sight p)
 is_fresh load lists rows consumed start e p m = record {
-  build_is = ap silent_lists m.rows_is;
+  build_is = ap belled_lists m.rows_is;
   lists_is = ap (λ (l : List Deed). (after (opening p) l).lists) (sym m.seen_is) ∙ p.within.lists ∙ ap (λ (z : Shape). z.lists) m.pass.shape ∙ m.lists_is;
   consumers_is = ap (λ (l : List Deed). (after (opening p) l).consumers) (sym m.seen_is) ∙ p.within.consumers ∙ ap (λ (z : Shape). z.consumers) m.pass.shape ∙ m.consumers_is;
   opened = m.opened;

@@ -23,4 +23,4 @@ pub record Deletes (old new : Pass) (row : ℕ) : Type 0 where
 
 -- the same of any queue
 abbrev pub DeletesAny : AnyPass → AnyPass → ℕ → Type 0
-DeletesAny (passes.Listed old) (passes.Listed new) row = Deletes old new row
+DeletesAny (passes.Listed old) (passes.Listed new) row = Deletes old.pass new.pass row

@@ -1,11 +1,11 @@
 //! Queues of all kinds as one.
 #![tactic(auto)]
 
-mod deletes;
 mod kinds;
+mod listed;
 mod passes;
 
-pub use kinds::{AnyPass, AnyQueue};
+pub use kinds::{AnyPass, AnyQueue, ListedPass};
 
 #[cfg(test)]
 mod shared_tests;

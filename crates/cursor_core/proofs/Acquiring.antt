@@ -1,7 +1,6 @@
 -- one exchange of a row's state
-use Rattle.std.proofs.Common.{◌≡◌, ◌≢◌, ℕ, suc, length, ◌*◌, ◌+◌, ◌<◌, ◌≤◌, ◌==◌, ◌&&◌, Bool, true, false, Ok, Err, Option, Some, None, List, [], ◌∷◌, ◌++◌, refl, sym, ap, ap₂, ◌∙◌, subst, ⊎_elim, append_assoc, append-nil, eq-eqb, ne_eqb, arith}
+use Rattle.std.proofs.Common.{◌≡◌, ◌≢◌, ℕ, suc, length, ◌*◌, ◌+◌, ◌≤◌, ◌==◌, ◌&&◌, Bool, true, false, Ok, Err, Option, Some, None, List, [], ◌∷◌, ◌++◌, refl, sym, ap, ap₂, ◌∙◌, subst, append_assoc, eq-eqb, ne_eqb, arith}
 use Rattle.std.specs.Int.{bit_at}
-use Rattle.std.specs.Option.{option_map}
 use mathlib.Core.List.{IsPrefix}
 use Rattle.queue_model.specs.declared.deeds.Act.TheVariants as acts
 use Rattle.queue_model.specs.declared.deeds.Deed.{Deed}
@@ -20,19 +19,17 @@ use Rattle.queue_model.specs.Packing.{pack_state}
 use Rattle.queue_model.specs.State.{row_at, rows_of, place_at}
 use Rattle.queue_model.proofs.Prefixes.{prefix_trans}
 use Rattle.queue_model.proofs.Stable.{row_stays}
-use Rattle.link_core.specs.Steps.{act_with, goes_to}
+use Rattle.link_core.specs.Steps.{goes_to}
 use Rattle.acts_core.specs.Load.{Load}
-use Rattle.acts_core.specs.Moments.{HandsOut}
 use Rattle.acts_core.specs.Owed.{is_available, is_free}
-use Rattle.acts_core.specs.Sight.{Sight}
-use Rattle.acts_core.specs.Steps.{Stepped, NoHeads}
-use Rattle.acts_core.specs.Walks.{Ready, Misses, reach, IsOfList, AreDeleted}
+use Rattle.acts_core.specs.Steps.{Stepped}
+use Rattle.acts_core.specs.Walks.{reach, IsOfList, AreDeleted}
 use Rattle.acts_core.proofs.Sparing.{after_rest}
-use Rattle.acts_core.proofs.Stepping.{stepped_trans, rights_trans, no_head-append}
+use Rattle.acts_core.proofs.Stepping.{stepped_trans, rights_trans}
 use Rattle.entry_table.specs.declared.pass.Pass.{Pass}
 use Rattle.entry_table.specs.declared.view.View.{View}
 use Rattle.entry_table.specs.Passes.{Kept, Did, view, opening, seen, shown, allowance, share, callers, consumers}
-use Rattle.entry_table.specs.Plays.{Taking, Steps, Went, Shows}
+use Rattle.entry_table.specs.Plays.{Taking, Steps, Shows}
 use Rattle.entry_table.specs.Bells.{bell_word, TakesBell}
 use Rattle.entry_table.specs.Sights.{sight}
 use Rattle.entry_table.specs.Views.{entry, caller_of}
@@ -42,7 +39,7 @@ use Rattle.scavenge_core.specs.Skips.{StepsOver}
 use Rattle.scavenge_core.proofs.Lasting.{state_is}
 use Rattle.scavenge_core.proofs.Logs.{looks-append, hops-append}
 use Rattle.scavenge_core.proofs.Visiting.{place_shown}
-use Rattle.cursor_core.specs.Goes.{Goes, LastDid, TookBell, KnowsPlace, RunsTo, RunsOut, Runs, Takes, Leaves, TriesRow}
+use Rattle.cursor_core.specs.Goes.{TookBell, KnowsPlace, Runs, Leaves, TriesRow}
 use Rattle.cursor_core.specs.Takes.{Acquires, MissesReady, TakesReady}
 
 mine : (old : Pass) → caller_of (callers old) ≡ old.caller

@@ -1,5 +1,5 @@
 -- steps of a walk, as the table's calls tell them
-use Rattle.std.proofs.Common.{◌≡◌, ℕ, zero, suc, ◌+◌, ◌-◌, ◌≤◌, ◌<◌, Option, Some, None, List, [], ◌∷◌, slice_index, sym, ap, ◌∙◌, subst, arith}
+use Rattle.std.proofs.Common.{◌≡◌, ℕ, ◌+◌, ◌-◌, ◌≤◌, ◌<◌, Option, Some, None, List, [], ◌∷◌, slice_index, sym, ap, ◌∙◌, subst, arith}
 use mathlib.Core.List.{IsPrefix, Mem}
 use Rattle.queue_model.specs.declared.deeds.Act.TheVariants as acts
 use Rattle.queue_model.specs.declared.deeds.Deed.{Deed}
@@ -8,7 +8,6 @@ use Rattle.queue_model.specs.declared.rows.Row.{Row}
 use Rattle.queue_model.specs.History.{after}
 use Rattle.queue_model.specs.State.{row_at, place_at}
 use Rattle.acts_core.specs.Load.{Load}
-use Rattle.acts_core.specs.Sight.{Sight}
 use Rattle.acts_core.specs.Walks.{IsStop, IsOfList}
 use Rattle.acts_core.proofs.Coming.{left}
 use Rattle.entry_table.specs.declared.entries.Entries.{Entries}

@@ -1,29 +1,18 @@
 -- a call over all lists
-use Rattle.std.proofs.Common.{◌≡◌, ◌≢◌, ℕ, true, zero, suc, ◌+◌, ◌-◌, ◌<◌, ◌≤◌, Option, Some, None, List, [], ◌∷◌, refl, sym, ap, ◌∙◌, subst, arith}
-use Rattle.std.specs.Prelude.{IfSome}
+use Rattle.std.proofs.Common.{◌≡◌, ℕ, suc, ◌+◌, [], ◌∷◌, ap, subst, arith}
 use Rattle.queue_model.specs.declared.deeds.Act.TheVariants.{Acq}
 use Rattle.queue_model.specs.declared.queues.Queue.{Queue}
 use Rattle.queue_model.specs.declared.rows.Row.{Row}
 use Rattle.queue_model.specs.declared.rows.RowState.TheVariants.{Available}
-use Rattle.queue_model.specs.History.{Legal}
-use Rattle.queue_model.specs.Sound.{IsOpening}
-use Rattle.acts_core.specs.Calls.{CallNext, CallOldest, IsGot, IsEmpty}
+use Rattle.acts_core.specs.Calls.{CallOldest, IsGot, IsEmpty}
 use Rattle.acts_core.specs.Lists.{Gets}
 use Rattle.acts_core.specs.Load.{Load}
 use Rattle.acts_core.specs.Meaning.{Called}
-use Rattle.acts_core.specs.Moments.{JustBefore}
-use Rattle.acts_core.specs.Owed.{is_free}
 use Rattle.acts_core.specs.Sight.{Listed, Build, Sight}
-use Rattle.acts_core.specs.Walks.{Ask, FreeTo, Ready, Ended, Done, Stopped}
-use Rattle.acts_core.proofs.Answering.{next_empty, next_got, oldest_empty, oldest_got}
-use Rattle.acts_core.proofs.Coming.{from_pred}
-use Rattle.acts_core.proofs.Walking.{done_none, done_down, done_up, done_got}
+use Rattle.acts_core.specs.Walks.{Ask, Ready, Ended, Done}
+use Rattle.acts_core.proofs.Answering.{oldest_empty, oldest_got}
+use Rattle.acts_core.proofs.Walking.{done_up, done_got}
 use Rattle.queue_model.proofs.Prefixes.{prefix_trans}
-use Rattle.entry_table.specs.declared.entries.Entries.{Entries}
-use Rattle.entry_table.specs.declared.pass.Pass.{Pass}
-use Rattle.entry_table.specs.declared.view.Shape.{Shape}
-use Rattle.entry_table.specs.Passes.{IsPassOf, Kept, view, opening, seen}
-use Rattle.entry_table.specs.Sights.{sight, Serves}
 use Rattle.cursor_core.specs.Takes.{GotReady}
 
 -- what a later part of the call got, the call got

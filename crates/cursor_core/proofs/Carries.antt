@@ -149,6 +149,6 @@ row_carries o c e ds (d ∷ es) legal has un looked =
     let step = legal_rest o ds (d ∷ es) legal in
     let one = carry_step o c e ds d step.0 has (filter_none-head (λ (x : Deed). takes c l x.act) d es un) looked in
     let rest : taken c (list_at (after o (ds ++ d ∷ [])) e) es ≡ [] =
-      subst (λ (m : ℕ). taken c m es ≡ []) (sym (list_more o e ds (d ∷ []) has)) (filter_none-tail (λ (x : Deed). takes c l x.act) d es un) in
+    subst (λ (m : ℕ). taken c m es ≡ []) (sym (list_more o e ds (d ∷ []) has)) (filter_none-tail (λ (x : Deed). takes c l x.act) d es un) in
     subst (LookedOr o c e) assoc
     (row_carries o c e (ds ++ d ∷ []) es (subst (Legal o) (sym assoc) legal) (has_more o e ds (d ∷ []) has) rest one)

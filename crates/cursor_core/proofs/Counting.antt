@@ -1,5 +1,5 @@
 -- the rows of a list, later
-use Rattle.std.proofs.Common.{◌≡◌, ℕ, zero, suc, ◌+◌, ◌-◌, ◌≤◌, Bool, true, false, cond, Option, Some, None, List, [], ◌∷◌, ◌++◌, length, filter, option_map, slice_index, refl, sym, ap, ◌∙◌, subst, length-append, arith}
+use Rattle.std.proofs.Common.{◌≡◌, ℕ, zero, suc, ◌+◌, ◌-◌, ◌≤◌, Bool, true, false, cond, List, [], ◌∷◌, ◌++◌, length, filter, option_map, slice_index, refl, ap, ◌∙◌, subst, length-append, arith}
 use Rattle.std.proofs.lemmas.List.Elements.{filter-append}
 use mathlib.Core.List.{IsPrefix}
 use Rattle.queue_model.specs.declared.deeds.Act.{Act}
@@ -13,7 +13,6 @@ use Rattle.queue_model.specs.Keyed.{alter}
 use Rattle.queue_model.specs.State.{is_row, is_of_list, rows_of}
 use Rattle.queue_model.specs.Table.{acted, changed, in_state, left_in}
 use Rattle.queue_model.proofs.Prefixes.{prefix_trans}
-use Rattle.acts_core.specs.Moments.{JustBefore}
 use Rattle.acts_core.proofs.Sparing.{after_rest}
 use Rattle.cursor_core.specs.Listing.{WalkedRows}
 use Rattle.cursor_core.specs.Walking.{start_of}
@@ -22,7 +21,7 @@ use Rattle.cursor_core.specs.Walking.{start_of}
 altered_length : (p s : Row → Bool) (f : Row → Row) (xs : List Row) → ((z : Row) → s (f z) ≡ s z) → length (filter s (alter p (option_map f) xs)) ≡ length (filter s xs)
 altered_length p s f [] kept = refl
 altered_length p s f (x ∷ xs) kept = elim (p x) as (λ b. length (filter s (cond b (f x ∷ xs) (x ∷ alter p (option_map f) xs))) ≡ length (filter s (x ∷ xs))) [
-  true ↦
+  | true ↦
       ap (λ (b : Bool). length (cond b (f x ∷ filter s xs) (filter s xs))) (kept x)
       ∙ elim (s x) as (λ b. length (cond b (f x ∷ filter s xs) (filter s xs)) ≡ length (cond b (x ∷ filter s xs) (filter s xs))) [ true ↦ refl | false ↦ refl ]
   | false ↦

@@ -3,7 +3,6 @@ use Rattle.std.proofs.Common.{◌≡◌, ℕ, List, [], ◌∷◌, ◌++◌, sym
 use Rattle.std.proofs.lemmas.List.Elements.{filter-append}
 use mathlib.Core.List.{IsPrefix, Mem, append_cancel_left}
 use Rattle.queue_model.specs.declared.deeds.Act.{Act}
-use Rattle.queue_model.specs.declared.deeds.Act.TheVariants.{Take}
 use Rattle.queue_model.specs.declared.deeds.Deed.{Deed}
 use Rattle.queue_model.specs.declared.queues.Queue.{Queue}
 use Rattle.queue_model.specs.declared.steps.Tried.{Tried}

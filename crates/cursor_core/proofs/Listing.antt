@@ -1,5 +1,5 @@
 -- a call of next over the lists of a queue
-use Rattle.std.proofs.Common.{◌≡◌, ◌≢◌, Bool, true, false, ◌&&◌, ◌==◌, cond, ℕ, zero, suc, ◌+◌, ◌-◌, ◌*◌, ◌≤◌, ◌<◌, Some, List, [], ◌∷◌, ◌++◌, length, filter, slice_index, slice_set, refl, sym, ap, ◌∙◌, subst, ⊎_elim, append_assoc, append-nil, ne_eqb, arith}
+use Rattle.std.proofs.Common.{◌≡◌, ◌≢◌, Bool, true, false, ◌&&◌, ◌==◌, cond, ℕ, zero, suc, ◌+◌, ◌-◌, ◌*◌, ◌≤◌, ◌<◌, Some, List, [], ◌∷◌, ◌++◌, length, filter, slice_index, slice_set, refl, sym, ap, ◌∙◌, subst, ⊎_elim, append_assoc, ne_eqb, arith}
 use Rattle.std.proofs.lemmas.Bool.{cases_Bool, cases_eq, cases_lt, cond-true, cond-false}
 use Rattle.std.proofs.lemmas.List.{get_or-set_same, get_or-set_other}
 use mathlib.Core.List.{IsPrefix, Mem}
@@ -11,18 +11,18 @@ use Rattle.queue_model.specs.declared.rows.Row.{Row}
 use Rattle.queue_model.specs.declared.rows.RowState.TheVariants.{Deleted}
 use Rattle.queue_model.specs.declared.rows.Slip.{Slip}
 use Rattle.queue_model.specs.declared.steps.Tried.{Tried}
-use Rattle.queue_model.specs.History.{after, Legal, own, deed, deeds_of}
+use Rattle.queue_model.specs.History.{after, Legal, deed, deeds_of}
 use Rattle.queue_model.specs.Order.{Precedes, ByList}
 use Rattle.queue_model.specs.State.{row_at, rows_of, place_at, IsIn}
-use Rattle.queue_model.proofs.Histories.{after-append, legal_rest}
-use Rattle.queue_model.proofs.Prefixes.{prefix_self, prefix_trans}
+use Rattle.queue_model.proofs.Histories.{legal_rest}
+use Rattle.queue_model.proofs.Prefixes.{prefix_trans}
 use Rattle.queue_model.proofs.Stable.{row_stays, place_stays, deleted_stays}
 use Rattle.acts_core.specs.Calls.{CallNext, IsGot, IsEmpty, takes_down}
 use Rattle.acts_core.specs.Lists.{Gets, Passed, NextGot, NextEmpty}
 use Rattle.acts_core.specs.Load.{Load}
 use Rattle.acts_core.specs.Meaning.{Called}
 use Rattle.acts_core.specs.Moments.{JustBefore}
-use Rattle.acts_core.specs.Owed.{Has, is_free, takes, takes_any, taken, taken_any}
+use Rattle.acts_core.specs.Owed.{is_free, takes, takes_any, taken, taken_any}
 use Rattle.acts_core.specs.Sight.{Listed, Build, Sight, Forgotten, Showed}
 use Rattle.acts_core.specs.Walks.{reach, IsOfList, IsStop}
 use Rattle.acts_core.proofs.Coming.{from_pred}
@@ -30,11 +30,11 @@ use Rattle.acts_core.proofs.Sparing.{after_rest}
 use Rattle.acts_core.proofs.Stepping.{called_by}
 use Rattle.cursor_core.specs.declared.cursor.Cursor.{Cursor}
 use Rattle.cursor_core.specs.Goes.{Goes}
-use Rattle.cursor_core.specs.Listing.{WalkedRows, Bounded, IsBehind, WalkedTo, WalkedOut, Done}
+use Rattle.cursor_core.specs.Listing.{WalkedRows, IsBehind, WalkedTo, WalkedOut, Done}
 use Rattle.scavenge_core.specs.Shown.{looks, hops}
 use Rattle.cursor_core.specs.Truths.{Good, TrueOf, TrueNow}
 use Rattle.cursor_core.specs.Walking.{belled, start_of, Spends, WalkGot, WalkEnd}
-use Rattle.cursor_core.proofs.Counting.{rows_later, walked_later}
+use Rattle.cursor_core.proofs.Counting.{walked_later}
 use Rattle.cursor_core.proofs.Going.{goes_trans, goes_none, goes_legal, goes_caller, goes_mem, goes_taken, reach_on}
 use Rattle.scavenge_core.proofs.Logs.{looks-append, hops-append}
 use Rattle.cursor_core.proofs.Marks.{takes_less}

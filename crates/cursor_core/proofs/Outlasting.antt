@@ -2,13 +2,13 @@
 use Rattle.std.proofs.Common.{◌≡◌, ◌≢◌, Bool, true, false, cond, ◌==◌, ℕ, zero, suc, ◌+◌, ◌-◌, None, Some, List, [], ◌∷◌, ◌++◌, refl, sym, ap, ◌∙◌, subst, append-nil, ne_eqb}
 use Rattle.std.proofs.lemmas.Bool.{cond-false}
 use Rattle.std.specs.Int.{bit_at}
-use mathlib.Core.List.{IsPrefix, Mem}
+use mathlib.Core.List.{Mem}
 use Rattle.queue_model.specs.declared.deeds.Act.{Act}
 use Rattle.queue_model.specs.declared.deeds.Act.TheVariants.{Acq, Bell, Take}
 use Rattle.queue_model.specs.declared.deeds.Deed.{Deed}
 use Rattle.queue_model.specs.declared.queues.Queue.{Queue}
 use Rattle.queue_model.specs.History.{deed, deeds_of}
-use Rattle.acts_core.specs.Calls.{Call, CallDepth, CallReserve, CallGiveBack, CallPut, CallNext, CallOldest, CallFind, CallLock, CallUnlock, CallRelease, CallSteal, CallDequeue, CallDelete, Answer, IsDepth, IsAt, IsSpent, IsGot, IsEmpty, IsFound, IsLocked, IsStolen, IsReleased, IsOutdated, HasStolen, IsNotStealable, IsMoved, IsFreed, IsDone, takes_down, rings_up, acts_of}
+use Rattle.acts_core.specs.Calls.{Call, CallReserve, CallGiveBack, CallPut, CallNext, CallOldest, CallLock, CallUnlock, CallRelease, CallSteal, CallDequeue, CallDelete, Answer, IsAt, IsGot, IsEmpty, IsLocked, IsReleased, HasStolen, IsFreed, takes_down, rings_up, acts_of}
 use Rattle.acts_core.specs.Meaning.{Called}
 use Rattle.acts_core.specs.Owed.{taken_any}
 use Rattle.acts_core.specs.Sight.{Build, Plan, Sight, plan_of}
@@ -89,7 +89,7 @@ split_outlasts old new made cs n k d mem t =
     in (
       subst (λ (o : Queue). TrueOf o k.consumer k.stops (seen new)) (sym (ap (λ (v : View). v.opening) d.boss)) more,
       subst (λ (o : Queue). TrueOf o k.consumer k.stops (seen made)) (sym (ap (λ (v : View). v.opening) d.new))
-      (subst (λ (ds : List Deed). TrueOf (opening old) k.consumer k.stops ds) (sym (ap (λ (v : View). v.seen) d.new)) more),
+          (subst (λ (ds : List Deed). TrueOf (opening old) k.consumer k.stops ds) (sym (ap (λ (v : View). v.seen) d.new)) more),
     )
 
 pub join_outlasts : (old gone new : Pass) (k : Cursor) → Joined (view old) (view gone) (view new) → opening gone ≡ opening old

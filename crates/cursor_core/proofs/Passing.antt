@@ -14,7 +14,7 @@ use Rattle.queue_model.specs.State.{row_at, place_at}
 use Rattle.queue_model.proofs.Histories.{after-append}
 use Rattle.queue_model.proofs.Prefixes.{prefix_length, prefix_trans}
 use Rattle.queue_model.proofs.Stable.{row_stays}
-use Rattle.acts_core.specs.Owed.{IsBusy, mark, taken}
+use Rattle.acts_core.specs.Owed.{IsBusy, taken}
 use Rattle.cursor_core.specs.Truths.{Good, TrueNow}
 use Rattle.cursor_core.specs.Walked.{Answers}
 use Rattle.acts_core.specs.Lists.{Begins, Passed}
@@ -23,7 +23,6 @@ use Rattle.acts_core.specs.Sight.{Plan, Evidence}
 use Rattle.cursor_core.proofs.Marks.{looked_more, mark_within}
 use Rattle.cursor_core.proofs.Within.{good_more}
 use Rattle.cursor_core.proofs.Carries.{place_more}
-
 
 -- where a list begins is so of a longer call
 begins_more : (v : Evidence) → (bells : Bool) (h c l : ℕ) (s0 s s1 b : List Deed) → IsPrefix s s1 → Begins v bells h c l s0 s b → Begins v bells h c l s0 s1 b
@@ -54,12 +53,15 @@ place_end o b s p y is = ap (λ (ds : List Deed). place_at (after o ds) y.number
 -- the list of the answered row was passed up to it
 pub passed_got : (v : Evidence) → (p : Plan) (h c l : ℕ) (s0 s1 b : List Deed) (x : Row) → Begins v p.bells h c l s0 s1 b → IsPrefix b s1 → x.slip.list ≡ l
     → Answers p.opening c l (place_at (after p.opening s1) x.number) b s1 → Passed v p h c s0 s1 l (λ y. Precedes ByList (after p.opening s1) y x)
-passed_got v p h c l s0 s1 b x begins within here answers =
-    (b, begins, λ y is list before. ⊎_elim
-    (λ (higher : x.slip.list < y.slip.list). absurd (omega (arith, higher, here, list)))
-    (λ (same : (y.slip.list ≡ x.slip.list) × (place_at (after p.opening s1) y.number < place_at (after p.opening s1) x.number)).
-    answers y.number (record { row = y; found = is; list = list; below = omega (arith, same.1, place_end p.opening b s1 within y is) }))
-    before)
+passed_got v p h c l s0 s1 b x begins within here answers = (
+  b,
+  begins,
+  λ y is list before. ⊎_elim
+      (λ (higher : x.slip.list < y.slip.list). absurd (omega (arith, higher, here, list)))
+      (λ (same : (y.slip.list ≡ x.slip.list) × (place_at (after p.opening s1) y.number < place_at (after p.opening s1) x.number)).
+      answers y.number (record { row = y; found = is; list = list; below = omega (arith, same.1, place_end p.opening b s1 within y is) }))
+      before,
+)
 
 -- The cursor stays true where one list was walked to a stop that is good, and no bell of another list was taken.
 pub true_walked : (o : Queue) (c l w : ℕ) (stops : List ℕ) (ds es : List Deed) → Legal o (ds ++ es) → l < length stops → ((m : ℕ) → m ≢ l → taken c m es ≡ [])
@@ -77,17 +79,20 @@ true_walked o c l w stops ds es legal inside others good old m low = ⊎_elim
 pub passed_busy : (v : Evidence) (p : Plan) (h c l n : ℕ) (s0 s1 b at : List Deed) → Begins v p.bells h c l s0 s1 b → IsPrefix b at → IsPrefix at s1
     → ((e : ℕ) (x : Row) → row_at (after p.opening at) e ≡ Some x → x.slip.list ≡ l → n ≤ place_at (after p.opening at) e → IsBusy (after p.opening at) c e)
     → Answers p.opening c l n b s1 → Passed v p h c s0 s1 l (λ y. Unit {0})
-passed_busy v p h c l n s0 s1 b at begins early late busy answers =
-    (b, begins, λ y is list _. ⊎_elim
-    (λ (low : place_at (after p.opening b) y.number < n). answers y.number (record { row = y; found = is; list = list; below = low }))
-    (λ (high : n ≤ place_at (after p.opening b) y.number).
-    let t = row_stays (after p.opening b) early.0 y.number y is in
-    let found : row_at (after p.opening at) y.number ≡ Some t.0 = ap (λ (ds : List Deed). row_at (after p.opening ds) y.number) (sym early.1) ∙ ap (λ (q : Queue). row_at q y.number) (after-append p.opening b early.0) ∙ t.1 in
-    let there = busy y.number t.0 found (ap (λ (s : Slip). s.list) t.2.slip ∙ list) (omega (arith, high, place_end p.opening b at early y is)) in
-    let within = mark_within c y.number b in
-    let long = prefix_length b at early in
-    record { at = at; prefix = late; long = omega (arith, within, long); busy = there })
-    (cases_lt (place_at (after p.opening b) y.number) n))
+passed_busy v p h c l n s0 s1 b at begins early late busy answers = (
+  b,
+  begins,
+  λ y is list _. ⊎_elim
+      (λ (low : place_at (after p.opening b) y.number < n). answers y.number (record { row = y; found = is; list = list; below = low }))
+      (λ (high : n ≤ place_at (after p.opening b) y.number).
+      let t = row_stays (after p.opening b) early.0 y.number y is in
+      let found : row_at (after p.opening at) y.number ≡ Some t.0 = ap (λ (ds : List Deed). row_at (after p.opening ds) y.number) (sym early.1) ∙ ap (λ (q : Queue). row_at q y.number) (after-append p.opening b early.0) ∙ t.1 in
+      let there = busy y.number t.0 found (ap (λ (s : Slip). s.list) t.2.slip ∙ list) (omega (arith, high, place_end p.opening b at early y is)) in
+      let within = mark_within c y.number b in
+      let long = prefix_length b at early in
+      record { at = at; prefix = late; long = omega (arith, within, long); busy = there })
+      (cases_lt (place_at (after p.opening b) y.number) n),
+)
 
 -- what was passed since a later beginning was passed since an earlier one
 begins_wider : (v : Evidence) (bells : Bool) (h c l : ℕ) (s0 s s1 b : List Deed) → IsPrefix s0 s → Begins v bells h c l s s1 b → Begins v bells h c l s0 s1 b

@@ -1,5 +1,5 @@
 -- a bell that is taken, and where a walk begins then
-use Rattle.std.proofs.Common.{◌≡◌, ℕ, zero, suc, ◌+◌, ◌-◌, ◌*◌, ◌≤◌, ◌<◌, Bool, Option, Some, None, List, [], ◌∷◌, ◌++◌, refl, sym, ap, ◌∙◌, subst, append_assoc, append-nil, arith}
+use Rattle.std.proofs.Common.{◌≡◌, ℕ, zero, suc, ◌+◌, ◌-◌, ◌≤◌, ◌<◌, Bool, Option, Some, None, List, [], ◌∷◌, ◌++◌, refl, sym, ap, ◌∙◌, subst, append_assoc, append-nil, arith}
 use Rattle.std.proofs.lemmas.List.Elements.{filter-append}
 use Rattle.std.specs.Option.{option_map}
 use mathlib.Core.List.{IsPrefix, Mem, append_cancel_left, append_cancel_right}
@@ -9,7 +9,7 @@ use Rattle.queue_model.specs.declared.queues.Bell as ring
 use Rattle.queue_model.specs.declared.queues.Queue.{Queue}
 use Rattle.queue_model.specs.declared.steps.Tried.{Tried}
 use Rattle.queue_model.specs.History.{after, Legal, deed}
-use Rattle.queue_model.specs.State.{row_at, place_at, bell_at}
+use Rattle.queue_model.specs.State.{place_at, bell_at}
 use Rattle.queue_model.proofs.Histories.{legal_front}
 use Rattle.queue_model.proofs.Prefixes.{prefix_self, prefix_trans}
 use Rattle.acts_core.specs.Moments.{JustBefore}
@@ -26,7 +26,7 @@ use Rattle.cursor_core.proofs.Going.{goes_trans, goes_legal, goes_mem, walked_on
 use Rattle.scavenge_core.proofs.Logs.{looks-append, hops-append}
 use Rattle.cursor_core.proofs.Marks.{untaken_less}
 use Rattle.cursor_core.proofs.Truths.{walk_taken}
-use Rattle.cursor_core.proofs.Within.{good_more, stop_more}
+use Rattle.cursor_core.proofs.Within.{good_more}
 
 -- no bell of the consumer was taken between
 no_take_before : (o : Queue) (old now : Sight) (c l : ℕ) (row : Option ℕ) → Mem c old.consumers → (t : TookBell o old now c l row) → taken_any c t.did.later.0 ≡ []

@@ -1,5 +1,5 @@
 -- walks along a list over runs of deleted rows
-use Rattle.std.proofs.Common.{◌≡◌, ◌≢◌, ℕ, zero, suc, ◌+◌, ◌-◌, ◌<◌, ◌≤◌, Option, Some, None, List, [], ◌++◌, find, refl, sym, ap, ◌∙◌, subst, ⊎_elim, arith}
+use Rattle.std.proofs.Common.{◌≡◌, ◌≢◌, ℕ, suc, ◌+◌, ◌-◌, ◌<◌, ◌≤◌, Option, Some, None, List, [], ◌++◌, refl, sym, ap, ◌∙◌, subst, ⊎_elim, arith}
 use Rattle.std.proofs.lemmas.Bool.{cases_lt}
 use mathlib.Core.List.{IsPrefix}
 use Rattle.queue_model.specs.declared.deeds.Deed.{Deed}
@@ -15,8 +15,8 @@ use Rattle.queue_model.proofs.Orders.{place_same}
 use Rattle.queue_model.proofs.Prefixes.{prefix_self, prefix_trans}
 use Rattle.acts_core.specs.Owed.{is_available, is_free}
 use Rattle.acts_core.specs.Sight.{Sight, on_head}
-use Rattle.acts_core.specs.Steps.{Stepped, SameRights, NoHead, NoHeads}
-use Rattle.acts_core.specs.Walks.{Ask, FreeTo, Ready, Named, Fails, FailedOnce, FailedBelow, reach, IsOfList, IsStop, AreDeleted, Misses, Walking, Facing, Ended, Faces}
+use Rattle.acts_core.specs.Steps.{Stepped, SameRights, NoHead}
+use Rattle.acts_core.specs.Walks.{Ask, FreeTo, Ready, Named, Fails, FailedOnce, FailedBelow, IsOfList, AreDeleted, Misses, Walking, Facing, Ended, Faces}
 use Rattle.acts_core.proofs.Coming.{facing, opening_of, left}
 use Rattle.acts_core.proofs.Stepping.{stepped_trans, rights_trans, no_head-append}
 use Rattle.acts_core.proofs.Walking.{list_later, place_later}
@@ -24,7 +24,7 @@ use Rattle.entry_table.specs.declared.pass.Pass.{Pass}
 use Rattle.entry_table.specs.Passes.{opening, seen, state}
 use Rattle.entry_table.specs.Sights.{sight}
 use Rattle.scavenge_core.specs.Skips.{Tries, Begun, StepsOver}
-use Rattle.scavenge_core.proofs.Lasting.{state_is, row_on, place_on, reach_on}
+use Rattle.scavenge_core.proofs.Lasting.{state_is, reach_on}
 
 -- Rows that failed
 

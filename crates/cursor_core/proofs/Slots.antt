@@ -1,5 +1,5 @@
 -- cursors that go from pass to pass
-use Rattle.std.proofs.Common.{◌≡◌, ◌≢◌, ◌⊎◌, inl, inr, ℕ, zero, suc, ◌+◌, ◌<◌, ◌≤◌, Option, Some, None, List, [], ◌∷◌, ◌++◌, length, get_or, slice_set, take, length-set, refl, sym, ap, ◌∙◌, subst, ⊎_elim, arith}
+use Rattle.std.proofs.Common.{◌≡◌, ◌≢◌, inl, inr, ℕ, zero, suc, ◌+◌, ◌<◌, ◌≤◌, Option, Some, None, List, [], ◌∷◌, ◌++◌, length, get_or, slice_set, length-set, refl, sym, ap, ◌∙◌, subst, ⊎_elim, arith}
 use Rattle.std.proofs.lemmas.Bool.{cases_eq, cases_lt}
 use Rattle.std.proofs.lemmas.List.{get_or-set_same, get_or-set_other}
 use Rattle.std.specs.List.{AllByRecursion}
@@ -47,6 +47,12 @@ below_places s slots n c t long mem = ⊎_elim
     absurd (cc))
     (cases_lt c n)
 
+-- what stands in a place does not hang on what stands for none
+pub any_default : (slots : List (Option Cursor)) (c : ℕ) (o p : Option Cursor) → c < length slots → get_or slots c o ≡ get_or slots c p
+any_default [] c o p within = absurd (omega (arith, within))
+any_default (x ∷ slots) zero o p within = refl
+any_default (x ∷ slots) (suc c) o p within = any_default slots c o p (omega (arith, within))
+
 -- Fresh cursors
 
 pub fresh_none : (s : Sight) (slots : List (Option Cursor)) → ((c : ℕ) → cursor_at slots c ≡ None) → AreFresh s 0 slots
@@ -65,16 +71,18 @@ fresh_more s n slots k within own truth f = record {
 
 -- The next entry
 
+-- the cursor that a call of next went on from is the consumer's own
+pub first_own : (s : Sight) (c : ℕ) (slots : List (Option Cursor)) (k : Cursor) → IsOwn s c (cursor_at slots c) → cursor_at slots c ≡ Some k → k.consumer ≡ c
+first_own s c slots k own from =
+    let both : Some own.cursor ≡ Some k = sym own.is ∙ from in
+    let is : own.cursor ≡ k = cc in
+    ap (λ (z : Cursor). z.consumer) (sym is) ∙ own.consumer
+
 -- the cursors after a call of next
 pub held_on : {C : Type 0} (load : C → Load) (build : Build) (old new : Sight) (c : ℕ) (slots now : List (Option Cursor)) (o : Option Cursor) (result : Next C) → c < length slots → ((d : ℕ) → cursor_at now d ≡ cursor_at (slice_set slots c o) d) → new.consumers ≡ old.consumers → Mem c old.consumers → AreTrueOf old slots → GoesOn load build old new (cursor_at slots c) o result
     → AreTrueOf new now
 held_on load build old new c slots now o result within is_now same mem t g =
-    let mine : g.first.consumer ≡ c =
-    (let own = t.own c mem in
-    let both : Some own.cursor ≡ Some g.first = sym own.is ∙ g.from in
-    let is : own.cursor ≡ g.first = cc in
-    ap (λ (k : Cursor). k.consumer) (sym is) ∙ own.consumer)
-    in
+    let mine : g.first.consumer ≡ c = first_own old c slots g.first (t.own c mem) g.from in
     record {
       own = λ d has.
           let had : Mem d old.consumers = subst (Mem d) same has in

@@ -1,5 +1,5 @@
 -- a walk along one list, from row to row
-use Rattle.std.proofs.Common.{◌≡◌, true, ℕ, zero, suc, ◌+◌, ◌-◌, ◌*◌, ◌≤◌, ◌<◌, Option, Some, None, List, [], ◌∷◌, ◌++◌, length, refl, sym, ap, ◌∙◌, subst, append-nil, arith}
+use Rattle.std.proofs.Common.{◌≡◌, ℕ, suc, ◌+◌, ◌-◌, ◌≤◌, ◌<◌, Option, Some, None, List, [], ◌∷◌, ◌++◌, length, refl, sym, ap, ◌∙◌, subst, append-nil, arith}
 use mathlib.Core.List.{IsPrefix, Mem}
 use Rattle.queue_model.specs.declared.deeds.Act.{Act}
 use Rattle.queue_model.specs.declared.deeds.Act.TheVariants.{Acq, Take}
@@ -23,7 +23,6 @@ use Rattle.acts_core.specs.Sight.{Sight, Forgotten}
 use Rattle.acts_core.specs.Walks.{reach, IsStop, IsOfList, AreDeleted}
 use Rattle.acts_core.proofs.Coming.{left}
 use Rattle.cursor_core.specs.Goes.{Goes, RunsTo, RunsOut, Runs, Takes, Leaves, TriesRow}
-use Rattle.scavenge_core.specs.Shown.{looks, hops}
 use Rattle.cursor_core.specs.Truths.{IsWithin}
 use Rattle.cursor_core.specs.Walked.{Walked, Answers}
 use Rattle.cursor_core.specs.Walking.{belled, start_of, Spent, Spends, Walking, Facing, WalkGot, WalkEnd, Faces}

@@ -67,16 +67,16 @@ pub walk_taken : (o : Queue) (h c l w n : ℕ) (ds : List Deed) → Good o c l w
 walk_taken o h c l w n ds good low bell =
     let es = deed h (Take c l) ∷ [] in
     let looked : (e : ℕ) → IsWithin (after o (ds ++ es)) l n e → Looked o c e (mark c e ds) (ds ++ es) =
-      λ e v.
-        let has : Has (after o ds) e = (v.row, ap (λ (q : Queue). row_at q e) (sym (after-append o ds es)) ∙ v.found) in
-        let u : IsWithin (after o ds) l n e = within_back o l n e ds es has v in
-        ⊎_elim
-        (λ (t : Looked o c e (mark c e ds) ds). looked_more o c e (mark c e ds) ds (ds ++ es) (prefix_more ds es) t)
-        (λ (r : Rings (after o ds) c e).
-        let list : list_at (after o ds) e ≡ l = list_found (after o ds) e u.row u.found ∙ u.list in
-        let late = bell r.0 (ap (λ (m : ℕ). bell_at (after o ds) c m) (sym list) ∙ r.1) in
-        absurd (omega (arith, late, r.2, u.below)))
-        (good.looked e (record { row = u.row; found = u.found; list = u.list; below = omega (arith, u.below, low) }))
+    λ e v.
+    let has : Has (after o ds) e = (v.row, ap (λ (q : Queue). row_at q e) (sym (after-append o ds es)) ∙ v.found) in
+    let u : IsWithin (after o ds) l n e = within_back o l n e ds es has v in
+    ⊎_elim
+    (λ (t : Looked o c e (mark c e ds) ds). looked_more o c e (mark c e ds) ds (ds ++ es) (prefix_more ds es) t)
+    (λ (r : Rings (after o ds) c e).
+    let list : list_at (after o ds) e ≡ l = list_found (after o ds) e u.row u.found ∙ u.list in
+    let late = bell r.0 (ap (λ (m : ℕ). bell_at (after o ds) c m) (sym list) ∙ r.1) in
+    absurd (omega (arith, late, r.2, u.below)))
+    (good.looked e (record { row = u.row; found = u.found; list = u.list; below = omega (arith, u.below, low) }))
     in
     record {
       bound = bound_more o l n ds es (w, good.stop, low);

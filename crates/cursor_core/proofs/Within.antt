@@ -1,6 +1,6 @@
 -- walks along a list
-use Rattle.std.proofs.Common.{◌≡◌, ◌≢◌, ◌⊎◌, inl, inr, ℕ, zero, suc, ◌≤◌, ◌<◌, Bool, true, false, Option, Some, None, List, [], ◌∷◌, ◌++◌, length, find, option_map, refl, sym, ap, ◌∙◌, subst, ⊎_elim, append-nil, arith}
-use Rattle.std.proofs.lemmas.Bool.{cases_Bool, cases_eq, cases_lt}
+use Rattle.std.proofs.Common.{◌≡◌, ◌≢◌, ◌⊎◌, inl, inr, ℕ, zero, suc, ◌≤◌, ◌<◌, Option, Some, None, List, [], ◌∷◌, ◌++◌, length, option_map, refl, sym, ap, ◌∙◌, subst, ⊎_elim, append-nil, arith}
+use Rattle.std.proofs.lemmas.Bool.{cases_eq, cases_lt}
 use mathlib.Core.List.{IsPrefix}
 use Rattle.queue_model.specs.declared.deeds.Act.{Act}
 use Rattle.queue_model.specs.declared.deeds.Act.TheVariants.{Acq, Lock, Unlock, Steal, Rel, Deq, Del, Reserve, GiveBack, Enq, Bell, Take}
@@ -12,12 +12,11 @@ use Rattle.queue_model.specs.declared.rows.RowState.TheVariants.{Available, Lock
 use Rattle.queue_model.specs.History.{after, Legal}
 use Rattle.queue_model.specs.State.{is_row, row_at, list_at, place_at, rows_of}
 use Rattle.queue_model.specs.Table.{Can, acted, changed, in_state, left_in}
-use Rattle.queue_model.proofs.KeyedLemmas.{find-past, find_none-alter, position-here, position-past}
-use Rattle.std.specs.List.{position_or_len}
+use Rattle.queue_model.proofs.KeyedLemmas.{find_none-alter}
 use Rattle.queue_model.proofs.RowFacts.{other_row, changed_number, row_push_other}
 use Rattle.queue_model.proofs.Owns.{own_enqueued, own_enqueued_last}
 use Rattle.queue_model.proofs.SoundSteps.{list_found}
-use Rattle.queue_model.proofs.Stable.{found_in_list, row_step, row_stays, place_step, place_stays}
+use Rattle.queue_model.proofs.Stable.{row_step, row_stays, place_step, place_stays}
 use Rattle.queue_model.proofs.Histories.{after-append, legal_rest}
 use Rattle.queue_model.proofs.Prefixes.{prefix_more, prefix_length}
 use Rattle.acts_core.specs.Owed.{Has, IsBusy, mark, Looked, taken}
@@ -90,7 +89,7 @@ old_rows q (d ∷ ds) r e y x legal there found same low =
     let s = row_step q d.caller d.act r y there in
     let list : y.slip.list ≡ s.0.slip.list = ap (λ (t : Slip). t.list) (sym s.2.slip) in
     let mid : Has (acted q d.caller d.act) e =
-      old_rows (acted q d.caller d.act) ds r e s.0 x legal.1 s.1 found (same ∙ list) (subst (λ (n : ℕ). place_at (after q (d ∷ ds)) e ≤ n) (sym (place_step q d.caller d.act r y there)) low) in
+    old_rows (acted q d.caller d.act) ds r e s.0 x legal.1 s.1 found (same ∙ list) (subst (λ (n : ℕ). place_at (after q (d ∷ ds)) e ≤ n) (sym (place_step q d.caller d.act r y there)) low) in
     let m = row_stays (acted q d.caller d.act) ds e mid.0 mid.1 in
     let both : Some m.0 ≡ Some x = sym m.1 ∙ found in
     let z : m.0 ≡ x = cc in
@@ -160,10 +159,10 @@ good_more o c l w ds es legal un good =
     record {
       stop = stop_more o l w ds es good.stop;
       looked = λ e within.
-        let v : IsWithin (after o (ds ++ es)) l n e = subst (λ (k : ℕ). IsWithin (after o (ds ++ es)) l k e) same within in
-        let has = old_within o l n e ds es legal (w, good.stop, omega arith) v in
-        let back = within_back o l n e ds es has v in
-        carried o c l n e ds es legal un back (good.looked e back);
+          let v : IsWithin (after o (ds ++ es)) l n e = subst (λ (k : ℕ). IsWithin (after o (ds ++ es)) l k e) same within in
+          let has = old_within o l n e ds es legal (w, good.stop, omega arith) v in
+          let back = within_back o l n e ds es has v in
+          carried o c l n e ds es legal un back (good.looked e back);
     }
 
 -- Walks
@@ -181,12 +180,12 @@ pub walk_more : (o : Queue) (c l n : ℕ) (begin ds es : List Deed) → Legal o 
 walk_more o c l n begin ds es legal un walked = record {
   bound = bound_more o l n ds es walked.bound;
   owed = λ e w was.
-    let has = old_within o l n e ds es legal walked.bound w in
-    looked_more o c e (mark c e begin) ds (ds ++ es) (prefix_more ds es) (walked.owed e (within_back o l n e ds es has w) was);
+      let has = old_within o l n e ds es legal walked.bound w in
+      looked_more o c e (mark c e begin) ds (ds ++ es) (prefix_more ds es) (walked.owed e (within_back o l n e ds es has w) was);
   good = λ e w.
-    let has = old_within o l n e ds es legal walked.bound w in
-    let back = within_back o l n e ds es has w in
-    carried o c l n e ds es legal un back (walked.good e back);
+      let has = old_within o l n e ds es legal walked.bound w in
+      let back = within_back o l n e ds es has w in
+      carried o c l n e ds es legal un back (walked.good e back);
 }
 
 -- a row that is not free at the end of a history was looked at there
@@ -202,16 +201,16 @@ walk_on o c l n m begin seen p bound busy walked =
     record {
       bound = bound;
       owed = λ e w has. ⊎_elim
-        (λ (done : place_at (after o seen) e < n). walked.owed e (record { row = w.row; found = w.found; list = w.list; below = done }) has)
-        (λ (more : n ≤ place_at (after o seen) e).
-        let within = mark_within c e begin in
-        busy_looked o c e (mark c e begin) seen (omega (arith, within, long)) (busy e w more))
-        (cases_lt (place_at (after o seen) e) n);
+          (λ (done : place_at (after o seen) e < n). walked.owed e (record { row = w.row; found = w.found; list = w.list; below = done }) has)
+          (λ (more : n ≤ place_at (after o seen) e).
+          let within = mark_within c e begin in
+          busy_looked o c e (mark c e begin) seen (omega (arith, within, long)) (busy e w more))
+          (cases_lt (place_at (after o seen) e) n);
       good = λ e w. ⊎_elim
-        (λ (done : place_at (after o seen) e < n). walked.good e (record { row = w.row; found = w.found; list = w.list; below = done }))
-        (λ (more : n ≤ place_at (after o seen) e).
-        inl (busy_looked o c e (mark c e seen) seen (mark_within c e seen) (busy e w more)))
-        (cases_lt (place_at (after o seen) e) n);
+          (λ (done : place_at (after o seen) e < n). walked.good e (record { row = w.row; found = w.found; list = w.list; below = done }))
+          (λ (more : n ≤ place_at (after o seen) e).
+          inl (busy_looked o c e (mark c e seen) seen (mark_within c e seen) (busy e w more)))
+          (cases_lt (place_at (after o seen) e) n);
     }
 
 -- a walk up to a stop makes it good

@@ -100,11 +100,7 @@ fn next_in<C: Freight>(
 }
 
 // The next entry for the consumer whose cursor this is.
-fn next_at<C: Freight>(
-    entries: &Entries<C>,
-    pass: &mut Pass,
-    slot: &mut Option<Cursor>,
-) -> Next<C>
+fn next_at<C: Freight>(entries: &Entries<C>, pass: &mut Pass, slot: &mut Option<Cursor>) -> Next<C>
     requires serves { Serves entries.now pass.old }
     requires own { (c : ℕ) × Mem c (sight pass.old).consumers × IsOwn (sight pass.old) c slot.old }
     ensures serves { Serves entries.now pass.new }

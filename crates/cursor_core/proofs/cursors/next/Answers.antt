@@ -1,14 +1,11 @@
-use Rattle.std.proofs.Common.{◌≡◌, ◌≤◌, ◌-◌, ◌<◌, ℕ, length, slice_set, refl, sym, ap, ◌∙◌, subst, arith}
+use Rattle.std.proofs.Common.{◌≡◌, ◌≤◌, ◌-◌, ℕ, length, slice_set, refl, sym, ap, ◌∙◌, subst, arith}
 use mathlib.Core.List.{Mem}
 use Rattle.queue_model.specs.declared.queues.Queue.{Queue}
-use Rattle.acts_core.specs.Sight.{Sight}
-use Rattle.acts_core.proofs.Coming.{from_pred}
 use Rattle.entry_table.specs.Passes.{consumers, opening, seen}
 use Rattle.entry_table.specs.Sights.{sight}
 use Rattle.entry_table.proofs.Later.{kept_same, kept_trans, pass_of, opening_lists}
 use Rattle.cursor_core.specs.Listing.{Done}
-use Rattle.cursor_core.specs.Truths.{Good, TrueOf}
-use Rattle.cursor_core.specs.Walking.{WalkGot, WalkEnd}
+use Rattle.cursor_core.specs.Truths.{TrueOf}
 use Rattle.cursor_core.proofs.AtPass.{lists_few, list_good, got_of, end_of}
 use Rattle.cursor_core.proofs.Listing.{done_start, loop_end, loop_called, loop_true, loop_walked, end_called, end_true, end_walked}
 use Rattle.cursor_core.proofs.cursors.next.Goals as goal

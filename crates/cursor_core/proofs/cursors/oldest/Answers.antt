@@ -1,4 +1,4 @@
-use Rattle.std.proofs.Common.{◌≡◌, ◌≤◌, refl, sym, ◌∙◌, arith}
+use Rattle.std.proofs.Common.{◌≡◌, refl, arith}
 use Rattle.acts_core.specs.Walks.{Ready}
 use Rattle.acts_core.proofs.Walking.{done_none}
 use Rattle.entry_table.specs.Passes.{opening}

@@ -1,1 +1,0 @@
-use Rattle.cursor_core.proofs.held.HeldCursors.take_in.Goals as goal
