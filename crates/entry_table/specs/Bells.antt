@@ -41,8 +41,11 @@ pub record DidAtBell (v w : View) (step : Step) (a : Act) (c l n : ℕ) : Type 0
   pub before : List Deed
   pub prefix : IsPrefix v.seen before
   pub word : n ≡ bell_word (after v.opening before) c l
-  pub rung : (b : Bell) → bell_at (after v.opening before) c l ≡ Some b → IsBellOf (after v.opening before) l b
-  pub view : w ≡ bell_view v step a n (bell_word (after v.opening (before ++ by_me v a ∷ [])) c l) before
+  pub rung :
+      (b : Bell) → bell_at (after v.opening before) c l ≡ Some b
+      → IsBellOf (after v.opening before) l b
+  pub view :
+      w ≡ bell_view v step a n (bell_word (after v.opening (before ++ by_me v a ∷ [])) c l) before
 
 -- an act on the bell of consumer c at list l
 abbrev pub at_bell : {S : Type 0} → Step → Act → ℕ → ℕ → Me S View → ℕ → Me S View → Type 0
@@ -56,10 +59,14 @@ pub record ActsAtBell (h : ℕ) (v w : View) (step : Step) (a : Act) (c l : ℕ)
   pub before : List Deed
   pub prefix : IsPrefix v.seen before
   pub seen_is : w.seen ≡ before ++ deed h a ∷ []
-  pub rung : (b : Bell) → bell_at (after v.opening before) c l ≡ Some b → IsBellOf (after v.opening before) l b
+  pub rung :
+      (b : Bell) → bell_at (after v.opening before) c l ≡ Some b
+      → IsBellOf (after v.opening before) l b
   pub shown_is :
       w.shown
-      ≡ v.shown ++ entry step (bell_word (after v.opening before) c l) (bell_word (after v.opening w.seen) c l) w.seen ∷ []
+      ≡ v.shown
+      ++ entry step (bell_word (after v.opening before) c l)
+        (bell_word (after v.opening w.seen) c l) w.seen ∷ []
 
 -- the entry of a load of a draft word of row r, which was n
 abbrev pub draft_look : ℕ → DraftWord → ℕ → List Deed → Tried
@@ -76,8 +83,11 @@ pub record RingsBell (h : ℕ) (v w : View) (c r : ℕ) : Type 0 where
   pub shown_is :
       let q : Queue = state_in v in
       w.shown
-      ≡ v.shown ++ draft_look r drafts.List (list_at q r) first ∷ draft_look r drafts.Place (place_at q r) second
-        ∷ entry (steps.Ring c r) (bell_word (after v.opening before) c (list_at q r)) (bell_word (after v.opening w.seen) c (list_at q r)) w.seen ∷ []
+      ≡ v.shown
+      ++ draft_look r drafts.List (list_at q r) first
+      ∷ draft_look r drafts.Place (place_at q r) second
+        ∷ entry (steps.Ring c r) (bell_word (after v.opening before) c (list_at q r))
+          (bell_word (after v.opening w.seen) c (list_at q r)) w.seen ∷ []
 
 -- The caller h took the bell of consumer c at list l. The answer is the row that it was rung for, as it was just before.
 pub record TakesBell (h : ℕ) (v w : View) (c l : ℕ) (row : Option ℕ) : Type 0 where

@@ -16,8 +16,10 @@ HasPlace q l place = (r : ℕ) × IsOfList q l r × (place_at q r ≡ place)
 
 -- the view after a step that changed a word from one number to another, and nothing else
 abbrev pub stepped_view : View → Step → ℕ → ℕ → List Deed → View
-stepped_view v step before now seen = record v { told = []; seen = seen; shown = v.shown ++ entry step before now seen ∷ [] }
+stepped_view v step before now seen =
+    record v { told = []; seen = seen; shown = v.shown ++ entry step before now seen ∷ [] }
 
 -- the step showed a word, which became this number
 abbrev pub stepped : {S : Type 0} → Step → ℕ → Me S View → ℕ → Me S View → Type 0
-stepped step now m n m' = (m'.1 ≡ m.1) × Went m.0 m'.0 [] × (m'.0 ≡ stepped_view m.0 step n now m'.0.seen)
+stepped step now m n m' =
+    (m'.1 ≡ m.1) × Went m.0 m'.0 [] × (m'.0 ≡ stepped_view m.0 step n now m'.0.seen)

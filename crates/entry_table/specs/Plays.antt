@@ -73,11 +73,21 @@ pub record Went (v w : View) (deeds : List Deed) : Type 0 where
 
 -- the view after a step that changed nothing
 abbrev pub looked_view : View → Step → ℕ → List Deed → View
-looked_view v step n seen = record v { reached = reached_by step n v.reached; told = []; seen = seen; shown = v.shown ++ entry step n n seen ∷ [] }
+looked_view v step n seen =
+    record v {
+      reached = reached_by step n v.reached;
+      told = [];
+      seen = seen;
+      shown = v.shown ++ entry step n n seen ∷ [];
+    }
 
 -- The step showed the word n, and changed nothing.
 abbrev pub looked : {S : Type 0} → Step → Me S View → ℕ → Me S View → Type 0
-looked step m n m' = (m'.1 ≡ m.1) × Went m.0 m'.0 [] × Shows step n (after m.0.opening m'.0.seen) × (m'.0 ≡ looked_view m.0 step n m'.0.seen)
+looked step m n m' =
+    (m'.1 ≡ m.1)
+    × Went m.0 m'.0 []
+    × Shows step n (after m.0.opening m'.0.seen)
+    × (m'.0 ≡ looked_view m.0 step n m'.0.seen)
 
 -- Deeds
 
@@ -95,7 +105,15 @@ pub record Did (v w : View) (a : Act) : Type 0 where
 
 -- a step on the depth word, which was n
 abbrev pub depth_view : View → Step → Act → ℕ → ℕ → ℕ → List Deed → View
-depth_view v step a allowance n n' before = let seen : List Deed = before ++ by_me v a ∷ [] in record v { allowance = allowance; slot = None; told = []; seen = seen; shown = v.shown ++ entry step n n' seen ∷ [] }
+depth_view v step a allowance n n' before =
+    let seen : List Deed = before ++ by_me v a ∷ [] in
+    record v {
+      allowance = allowance;
+      slot = None;
+      told = [];
+      seen = seen;
+      shown = v.shown ++ entry step n n' seen ∷ [];
+    }
 
 -- The word was that of the depth just before the act.
 pub record Deepens (v w : View) (step : Step) (a : Act) (allowance n n' : ℕ) : Type 0 where
@@ -107,10 +125,16 @@ pub record Deepens (v w : View) (step : Step) (a : Act) (allowance n n' : ℕ) :
   pub view : w ≡ depth_view v step a allowance n n' before
 
 abbrev pub reserved : {S : Type 0} → ℕ → Me S View → ℕ → Me S View → Type 0
-reserved size m n m' = (m'.1 ≡ m.1) × Deepens m.0 m'.0 (steps.Reserve size) (acts.Reserve size) (m.0.allowance - 1) n (n + (entry_worth + size))
+reserved size m n m' =
+    (m'.1 ≡ m.1)
+    × Deepens m.0 m'.0 (steps.Reserve size) (acts.Reserve size) (m.0.allowance - 1) n
+      (n + (entry_worth + size))
 
 abbrev pub gave_back : {S : Type 0} → ℕ → Me S View → ℕ → Me S View → Type 0
-gave_back size m n m' = (m'.1 ≡ m.1) × Deepens m.0 m'.0 (steps.GiveBack size) (acts.GiveBack size) (m.0.allowance + 1) n (n - (entry_worth + size))
+gave_back size m n m' =
+    (m'.1 ≡ m.1)
+    × Deepens m.0 m'.0 (steps.GiveBack size) (acts.GiveBack size) (m.0.allowance + 1) n
+      (n - (entry_worth + size))
 
 -- An entry of this size was reserved.
 pub record DidReserve (v w : View) (size : ℕ) : Type 0 where
@@ -121,7 +145,15 @@ pub record DidReserve (v w : View) (size : ℕ) : Type 0 where
 
 -- the view after a draw of row t
 abbrev pub drew_view : View → ℕ → List Deed → View
-drew_view v t seen = record v { share = v.share - 1; reached = t + 1; drawn = blank_drawing t ∷ v.drawn; told = []; seen = seen; shown = v.shown ++ entry steps.Draw t (t + 1) seen ∷ [] }
+drew_view v t seen =
+    record v {
+      share = v.share - 1;
+      reached = t + 1;
+      drawn = blank_drawing t ∷ v.drawn;
+      told = [];
+      seen = seen;
+      shown = v.shown ++ entry steps.Draw t (t + 1) seen ∷ [];
+    }
 
 abbrev pub drew : {S : Type 0} → ℕ → Me S View → Me S View → Type 0
 drew t m m' = (m'.1 ≡ m.1) × Went m.0 m'.0 [] × (m'.0 ≡ drew_view m.0 t m'.0.seen)
@@ -146,11 +178,21 @@ pub record DidDraw (v w : View) (row : ℕ) : Type 0 where
   pub draws : AllByRecursion is_draw added
   pub few : length added ≤ v.shape.rows
   pub low : row < v.shape.rows
-  pub view : w ≡ record v { share = v.share - 1; reached = row + 1; drawn = blank_drawing row ∷ v.drawn; told = []; seen = w.seen; shown = w.shown }
+  pub view :
+      w
+      ≡ record v {
+        share = v.share - 1;
+        reached = row + 1;
+        drawn = blank_drawing row ∷ v.drawn;
+        told = [];
+        seen = w.seen;
+        shown = w.shown;
+      }
 
 -- what a draw answers: a row, or that the share is used up, and then nothing happened
 abbrev pub DrawAnswer : {C : Type 0} → View → View → C → Drawn C → Type 0
-DrawAnswer v w cargo (DrawnRow draft) = (0 < v.share) × (draft.cargo ≡ cargo) × DidDraw v w draft.row
+DrawAnswer v w cargo (DrawnRow draft) =
+    (0 < v.share) × (draft.cargo ≡ cargo) × DidDraw v w draft.row
 DrawAnswer v w cargo (Spent back) = (v.share ≡ 0) × (back ≡ cargo) × (w ≡ v)
 
 -- A draw is under way: the rows before `row` are drawn by others, as the tries so far showed, and each showed one more at least.
@@ -174,10 +216,12 @@ pub record IsDrawnBy (v : View) (row : ℕ) : Type 0 where
 
 -- the view after a store; it adds nothing to the log
 abbrev pub stored_view : View → ℕ → DraftWord → ℕ → List Deed → View
-stored_view v row word value seen = record v { drawn = drawn_with row word value v.drawn; told = []; seen = seen }
+stored_view v row word value seen =
+    record v { drawn = drawn_with row word value v.drawn; told = []; seen = seen }
 
 abbrev pub stored : {S : Type 0} → ℕ → DraftWord → ℕ → Me S View → Me S View → Type 0
-stored row word value m m' = (m'.1 ≡ m.1) × Went m.0 m'.0 [] × (m'.0 ≡ stored_view m.0 row word value m'.0.seen)
+stored row word value m m' =
+    (m'.1 ≡ m.1) × Went m.0 m'.0 [] × (m'.0 ≡ stored_view m.0 row word value m'.0.seen)
 
 -- Caller numbers, splits and joins
 
@@ -188,10 +232,16 @@ behind k (h ∷ hs) = h ∷ k ∷ hs
 
 -- the view of the boss after it drew a caller number
 abbrev pub numbered_view : View → ℕ → List Deed → View
-numbered_view v n seen = record v { made = n + 1; callers = behind n v.callers; told = []; seen = seen }
+numbered_view v n seen =
+    record v { made = n + 1; callers = behind n v.callers; told = []; seen = seen }
 
 abbrev pub numbered : {S : Type 0} → Me S View → ℕ → Me S View → Type 0
-numbered m n m' = (m'.1 ≡ m.1) × (n ≡ m.0.made) × ((k : ℕ) → Has k m.0.callers → k ≢ n) × Went m.0 m'.0 [] × (m'.0 ≡ numbered_view m.0 n m'.0.seen)
+numbered m n m' =
+    (m'.1 ≡ m.1)
+    × (n ≡ m.0.made)
+    × ((k : ℕ) → Has k m.0.callers → k ≢ n)
+    × Went m.0 m'.0 []
+    × (m'.0 ≡ numbered_view m.0 n m'.0.seen)
 
 -- the callers without the number that was drawn last, and that number
 abbrev pub drop_second : List ℕ → List ℕ
@@ -210,10 +260,35 @@ not_in cs xs = filter (λ x. not (is_in x cs)) xs
 
 -- what the boss keeps, and what the new pass gets
 abbrev pub cut_left : ℕ → List ℕ → View → View
-cut_left n cs v = record v { alone = false; callers = drop_second v.callers; consumers = not_in cs v.consumers; allowance = v.allowance - n; share = v.share - n; told = [] }
+cut_left n cs v =
+    record v {
+      alone = false;
+      callers = drop_second v.callers;
+      consumers = not_in cs v.consumers;
+      allowance = v.allowance - n;
+      share = v.share - n;
+      told = [];
+    }
 
 abbrev pub cut_right : ℕ → List ℕ → View → View
-cut_right n cs v = record { shape = v.shape; opening = v.opening; callers = second_of v.callers ∷ []; made = 0; alone = false; consumers = cs; allowance = n; share = n; reached = v.reached; drawn = []; slot = None; told = []; watched = None; seen = v.seen; shown = [] }
+cut_right n cs v =
+    record {
+      shape = v.shape;
+      opening = v.opening;
+      callers = second_of v.callers ∷ [];
+      made = 0;
+      alone = false;
+      consumers = cs;
+      allowance = n;
+      share = n;
+      reached = v.reached;
+      drawn = [];
+      slot = None;
+      told = [];
+      watched = None;
+      seen = v.seen;
+      shown = [];
+    }
 
 -- what a pass keeps when another pass is given a note of what it has seen, and the note
 abbrev pub noted_left : View → View
@@ -224,7 +299,16 @@ note v = record spent { seen = v.seen }
 
 -- two views as one. Drafts that the other pass has not linked end with it.
 abbrev pub merged : View → View → View
-merged v w = record v { alone = false; callers = v.callers ++ w.callers; consumers = v.consumers ++ w.consumers; allowance = v.allowance + w.allowance; share = v.share + w.share; told = told_of v ∷ told_of w ∷ []; seen = longer v.seen w.seen }
+merged v w =
+    record v {
+      alone = false;
+      callers = v.callers ++ w.callers;
+      consumers = v.consumers ++ w.consumers;
+      allowance = v.allowance + w.allowance;
+      share = v.share + w.share;
+      told = told_of v ∷ told_of w ∷ [];
+      seen = longer v.seen w.seen;
+    }
 
 -- What a pass that was joined had seen begins what is seen now, in which nothing else concerns it.
 pub record Learns (t : Told) (seen : List Deed) : Type 0 where
@@ -239,7 +323,12 @@ settled_view v seen = record v { told = []; seen = seen }
 
 -- a load that tells of the passes that were joined
 abbrev pub settled : {S : Type 0} → Me S View → ℕ → Me S View → Type 0
-settled m n m' = (m'.1 ≡ m.1) × Went m.0 m'.0 [] × ((t : Told) → Has t m.0.told → Learns t m'.0.seen) × (m'.0.share ≤ m.0.shape.rows) × (m'.0 ≡ settled_view m.0 m'.0.seen)
+settled m n m' =
+    (m'.1 ≡ m.1)
+    × Went m.0 m'.0 []
+    × ((t : Told) → Has t m.0.told → Learns t m'.0.seen)
+    × (m'.0.share ≤ m.0.shape.rows)
+    × (m'.0 ≡ settled_view m.0 m'.0.seen)
 
 -- Two passes were joined. What both had seen begins what is seen now, in which nothing else concerns either.
 pub record Joined (v w u : View) : Type 0 where
@@ -262,8 +351,36 @@ pub record Met (v w u : View) : Type 0 where
 -- The boss, whose view was v, parted with the consumers cs and with n of its allowance and share, to a new caller, whose view is u.
 pub record DidSplit (v w u : View) (cs : List ℕ) (n : ℕ) : Type 0 where
   pub went : Went v w []
-  pub boss : w ≡ record v { made = v.made + 1; alone = false; consumers = not_in cs v.consumers; allowance = v.allowance - n; share = v.share - n; told = []; seen = w.seen }
-  pub new : u ≡ record { shape = v.shape; opening = v.opening; callers = v.made ∷ []; made = 0; alone = false; consumers = cs; allowance = n; share = n; reached = v.reached; drawn = []; slot = None; told = []; watched = None; seen = w.seen; shown = [] }
+  pub boss :
+      w
+      ≡ record v {
+        made = v.made + 1;
+        alone = false;
+        consumers = not_in cs v.consumers;
+        allowance = v.allowance - n;
+        share = v.share - n;
+        told = [];
+        seen = w.seen;
+      }
+  pub new :
+      u
+      ≡ record {
+        shape = v.shape;
+        opening = v.opening;
+        callers = v.made ∷ [];
+        made = 0;
+        alone = false;
+        consumers = cs;
+        allowance = n;
+        share = n;
+        reached = v.reached;
+        drawn = [];
+        slot = None;
+        told = [];
+        watched = None;
+        seen = w.seen;
+        shown = [];
+      }
 
 -- The opening
 
@@ -278,7 +395,13 @@ opened m n m' = (m'.1 ≡ m.1) × (m'.0 ≡ opened_view m.0)
 
 -- The view after a load that took or gave back a slot. It has seen no more than before.
 abbrev pub slotted_view : View → Option ℕ → Step → ℕ → View
-slotted_view v slot step n = record v { reached = reached_by step n v.reached; slot = slot; told = []; shown = v.shown ++ entry step n n v.seen ∷ [] }
+slotted_view v slot step n =
+    record v {
+      reached = reached_by step n v.reached;
+      slot = slot;
+      told = [];
+      shown = v.shown ++ entry step n n v.seen ∷ [];
+    }
 
 -- a load that takes the slot of a row, which is empty
 abbrev pub fetched : {C : Type 0} → ℕ → Step → Me (Option C) View → ℕ → Me (Option C) View → Type 0
@@ -319,7 +442,15 @@ enters row d l = acts.Enq row (slip_of d) l.content l.origin l.count
 
 -- the view after a link, and with the row's slot given back
 abbrev pub linked_view : View → ℕ → Node → Act → List Deed → View
-linked_view v row node a before = let seen : List Deed = before ++ by_me v a ∷ [] in record v { drawn = drawn_without row v.drawn; slot = None; told = []; seen = seen; shown = v.shown ++ entry (steps.Link row node) 0 (suc row) seen ∷ [] }
+linked_view v row node a before =
+    let seen : List Deed = before ++ by_me v a ∷ [] in
+    record v {
+      drawn = drawn_without row v.drawn;
+      slot = None;
+      told = [];
+      seen = seen;
+      shown = v.shown ++ entry (steps.Link row node) 0 (suc row) seen ∷ [];
+    }
 
 pub record DidLink (v w : View) (row : ℕ) (node : Node) (a : Act) : Type 0 where
   pub went : Went v w (by_me v a ∷ [])
@@ -328,8 +459,11 @@ pub record DidLink (v w : View) (row : ℕ) (node : Node) (a : Act) : Type 0 whe
   pub view : w ≡ linked_view v row node a before
 
 -- an exchange of an empty link for a drawn row, with its cargo in its slot
-abbrev pub linked : {C : Type 0} → ℕ → Node → Act → Me (Option C) View → ℕ → Me (Option C) View → Type 0
-linked row node a m n m' = (n ≡ 0 → (m'.1 ≡ rest m.1) × DidLink m.0 m'.0 row node a) × (n ≢ 0 → looked (steps.Link row node) m n m')
+abbrev pub linked :
+    {C : Type 0} → ℕ → Node → Act → Me (Option C) View → ℕ → Me (Option C) View → Type 0
+linked row node a m n m' =
+    (n ≡ 0 → (m'.1 ≡ rest m.1) × DidLink m.0 m'.0 row node a)
+    × (n ≢ 0 → looked (steps.Link row node) m n m')
 
 -- by the operand
 abbrev pub reserves : {S : Type 0} → Played S → Me S View → ℕ → Me S View → Type 0
@@ -344,14 +478,18 @@ pub record DepthShown (h : ℕ) (v w : View) (step : Step) (a : Act) (n : ℕ) (
   pub shown_is : w.shown ≡ v.shown ++ entry step (pack_depth d.entries d.bytes) n w.seen ∷ []
 
 -- by the view and the slot
-abbrev pub linking : {C : Type 0} → (C → Load) → ℕ → Node → Me (Option C) View → ℕ → Me (Option C) View → Type 0
-linking {C} load row node m n m' = (d : Drawing) (c : C) → drawing_at m.0 row ≡ Some d → m.1 ≡ (row, Some c) ∷ [] → linked row node (enters row d (load c)) m n m'
+abbrev pub linking :
+    {C : Type 0} → (C → Load) → ℕ → Node → Me (Option C) View → ℕ → Me (Option C) View → Type 0
+linking {C} load row node m n m' =
+    (d : Drawing) (c : C) → drawing_at m.0 row ≡ Some d → m.1 ≡ (row, Some c) ∷ []
+    → linked row node (enters row d (load c)) m n m'
 
 -- Several steps of one call
 
 -- the view but for what it has seen and was shown, for how many rows were drawn, and for its drafts
 abbrev pub later_view : View → List Drawing → View → View
-later_view v drawn w = record v { reached = w.reached; drawn = drawn; told = []; seen = w.seen; shown = w.shown }
+later_view v drawn w =
+    record v { reached = w.reached; drawn = drawn; told = []; seen = w.seen; shown = w.shown }
 
 -- an entry of the log for a slot's sake: a load of the word of callers
 abbrev pub quiet : ℕ → List Deed → Tried
@@ -360,7 +498,8 @@ quiet n seen = entry (steps.Load names.Callers) n n seen
 -- The log grew by one step on the link of the node, behind a load for the slot's sake, and before another if the slot was given back.
 pub record LinkShown (v w : View) (row : ℕ) (node : Node) (n n' : ℕ) (back : List Tried) : Type 0 where
   pub first : ℕ
-  pub shown_is : w.shown ≡ v.shown ++ quiet first v.seen ∷ entry (steps.Link row node) n n' w.seen ∷ back
+  pub shown_is :
+      w.shown ≡ v.shown ++ quiet first v.seen ∷ entry (steps.Link row node) n n' w.seen ∷ back
 
 module _ {C : Type 0} (load : C → Load) where
   -- the pass drew the draft's row, and may link it behind the node; the cargo is that of the slip
@@ -428,7 +567,15 @@ Slotted v w slot = (n : ℕ) × (w ≡ slotted_view v slot (steps.Load names.Cal
 -- the view after a change
 abbrev pub changed_view : View → ℕ → Change → RowState → Option ℕ → Act → List Deed → View
 changed_view v row change from slot a before = let seen : List Deed = before ++ by_me v a ∷ [] in
-    record v { slot = slot; told = []; seen = seen; shown = v.shown ++ entry (steps.State row change from) (pack_state from) (pack_state (goes_to (caller_of v.callers) change)) seen ∷ [] }
+    record v {
+      slot = slot;
+      told = [];
+      seen = seen;
+      shown =
+          v.shown
+          ++ entry (steps.State row change from) (pack_state from)
+            (pack_state (goes_to (caller_of v.callers) change)) seen ∷ [];
+    }
 
 -- The row was x just before the act, in the state that the change goes from.
 pub record DidChange (v w : View) (row : ℕ) (change : Change) (from : RowState) (slot : Option ℕ) (a : Act) (x : Row) : Type 0 where
@@ -440,18 +587,34 @@ pub record DidChange (v w : View) (row : ℕ) (change : Change) (from : RowState
   pub view : w ≡ changed_view v row change from slot a before
 
 -- a change that takes the row's cargo out: its slot is then out with the pass
-abbrev pub took : {C : Type 0} → (C → Load) → ℕ → Change → RowState → Me (Option C) View → ℕ → Me (Option C) View → Type 0
+abbrev pub took :
+    {C : Type 0} → (C → Load) → ℕ → Change → RowState → Me (Option C) View → ℕ → Me (Option C) View
+    → Type 0
 took {C} load row change from m n m' =
-    (n ≡ pack_state from → (c : C) × (x : Row) × IsLoadOf x (load c) × (m'.1 ≡ (row, Some c) ∷ m.1) × DidChange m.0 m'.0 row change from (Some row) (act_with 0 change row) x)
+    (n ≡ pack_state from
+     → (c : C)
+     × (x : Row)
+     × IsLoadOf x (load c)
+     × (m'.1 ≡ (row, Some c) ∷ m.1)
+     × DidChange m.0 m'.0 row change from (Some row) (act_with 0 change row) x)
     × (n ≢ pack_state from → looked (steps.State row change from) m n m')
 
 -- a change that brings the cargo home: it cannot miss, since the pass holds the row
-abbrev pub freed : {C : Type 0} → ℕ → Change → RowState → ℕ → Me (Option C) View → ℕ → Me (Option C) View → Type 0
-freed row change from count m n m' = (n ≡ pack_state from) × ((x : Row) × (m'.1 ≡ rest m.1) × DidChange m.0 m'.0 row change from None (act_with count change row) x)
+abbrev pub freed :
+    {C : Type 0} → ℕ → Change → RowState → ℕ → Me (Option C) View → ℕ → Me (Option C) View → Type 0
+freed row change from count m n m' =
+    (n ≡ pack_state from)
+    × ((x : Row)
+      × (m'.1 ≡ rest m.1)
+      × DidChange m.0 m'.0 row change from None (act_with count change row) x)
 
 -- a change that moves no cargo
-abbrev pub ended : {C : Type 0} → ℕ → Change → RowState → Me (Option C) View → ℕ → Me (Option C) View → Type 0
-ended row change from m n m' = (n ≡ pack_state from → (x : Row) × (m'.1 ≡ m.1) × DidChange m.0 m'.0 row change from None (act_with 0 change row) x) × (n ≢ pack_state from → looked (steps.State row change from) m n m')
+abbrev pub ended :
+    {C : Type 0} → ℕ → Change → RowState → Me (Option C) View → ℕ → Me (Option C) View → Type 0
+ended row change from m n m' =
+    (n ≡ pack_state from
+     → (x : Row) × (m'.1 ≡ m.1) × DidChange m.0 m'.0 row change from None (act_with 0 change row) x)
+    × (n ≢ pack_state from → looked (steps.State row change from) m n m')
 
 -- changes that take the row's cargo out
 abbrev pub TakesOut : Change → Type 0
@@ -476,5 +639,10 @@ pub record ShowsState (v w : View) (row : ℕ) (change : Change) (from s : RowSt
 module _ {C : Type 0} (load : C → Load) where
   -- The exchange hit, and then the row's slot was given back; or it showed another state.
   abbrev pub Taking : ℕ → Change → RowState → View → View → Result C RowState → Type 0
-  Taking row change from v w (Ok c) = (u : View) × (x : Row) × IsLoadOf x (load c) × DidChange v u row change from (Some row) (act_with 0 change row) x × Slotted u w None
+  Taking row change from v w (Ok c) =
+      (u : View)
+      × (x : Row)
+      × IsLoadOf x (load c)
+      × DidChange v u row change from (Some row) (act_with 0 change row) x
+      × Slotted u w None
   Taking row change from v w (Err s) = ShowsState v w row change from s

@@ -18,6 +18,8 @@ use Rattle.queue_model.specs.declared.steps.Node.TheVariants as nodes
 use Rattle.queue_model.specs.History.{after, Legal, own}
 use Rattle.acts_core.specs.Load.{Load}
 use Rattle.acts_core.specs.Moments.{IsLoadOf}
+use Rattle.queue_model.specs.Table.{most_entries}
+use Rattle.acts_core.specs.Asked.{most_callers}
 use Rattle.queue_model.specs.State.{empty, row_at, place_at, IsIn, entries}
 use Rattle.link_core.specs.Layout.{link_of, draft_of}
 use Rattle.link_core.specs.Stands.{Stands}
@@ -36,11 +38,11 @@ below (suc n) = below n ++ n ∷ []
 
 -- the view of the boss when the table is made
 abbrev pub boss : Shape → View
-boss shape = record { shape = shape; opening = empty shape.lists shape.consumers; callers = 0 ∷ []; made = 1; alone = true; consumers = below shape.consumers; allowance = 524288; share = shape.rows; reached = 0; drawn = []; slot = None; told = []; watched = None; seen = []; shown = [] }
+boss shape = record { shape = shape; opening = empty shape.lists shape.consumers; callers = 0 ∷ []; made = 1; alone = true; consumers = below shape.consumers; allowance = most_entries; share = shape.rows; reached = 0; drawn = []; slot = None; told = []; watched = None; seen = []; shown = [] }
 
 -- the words of a table of this shape, with who drew each row that is not linked, and what each caller has reserved
 abbrev pub table_at : Shape → List ℕ → (ℕ → Option ℕ) → (ℕ → Reservation) → Table
-table_at shape words drawer reserved = record { rows = shape.rows; lists = shape.lists; consumers = shape.consumers; callers = 4294967296; words = words; drawer = drawer; reserved = reserved }
+table_at shape words drawer reserved = record { rows = shape.rows; lists = shape.lists; consumers = shape.consumers; callers = most_callers; words = words; drawer = drawer; reserved = reserved }
 
 -- Cargo
 
@@ -181,7 +183,7 @@ module _ {C : Type 0} (load : C → Load) where
     pub takes : Each (Takes s.homes outs) s.views
     pub held : Each (Holds (after O history)) s.views
     pub away : Away s.homes outs s.views
-    pub allowed : sum_by allowance s.views + entries (after O history) ≤ 524288
+    pub allowed : sum_by allowance s.views + entries (after O history) ≤ most_entries
     pub shared : sum_by share s.views + slice_index s.words 0 ≤ shape.rows
     pub ends : AllEnd enders history
     pub alone : Each (Alone s.views history) s.views

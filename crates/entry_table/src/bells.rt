@@ -47,7 +47,8 @@ impl<C, J: Belling> Play<Option<C>, View> for Rings<J> {
     ghost use Rattle.queue_model.specs.declared.deeds.Act.TheVariants.{Bell};
     ghost use Rattle.queue_model.specs.declared.steps.Step.TheVariants.{Ring};
 
-    ghost then = { λ st. at_bell (Ring J.consumer J.number) (Bell J.number J.consumer) J.consumer J.along };
+    ghost then = { λ st. at_bell (Ring J.consumer J.number) (Bell J.number J.consumer)
+        J.consumer J.along };
 }
 
 /// A bell that is taken.
@@ -59,7 +60,8 @@ impl<C, J: Belling> Play<Option<C>, View> for Silences<J> {
     ghost use Rattle.queue_model.specs.declared.deeds.Act.TheVariants.{Take};
     ghost use Rattle.queue_model.specs.declared.steps.Step.TheVariants.{TakeBell};
 
-    ghost then = { λ st. at_bell (TakeBell J.consumer J.along) (Take J.consumer J.along) J.consumer J.along };
+    ghost then = { λ st. at_bell (TakeBell J.consumer J.along) (Take J.consumer J.along)
+        J.consumer J.along };
 }
 
 impl<C: Freight> Entries<C> {
@@ -154,7 +156,8 @@ impl<C: Freight> Entries<C> {
         ensures rights { KeepsRights pass.old pass.new }
         ensures did { Did pass.old pass.new (acts.Take consumer list ∷ []) }
         ensures watched { watched pass.new ≡ watched pass.old }
-        ensures takes { TakesBell pass.old.caller (view pass.old) (view pass.new) consumer list result }
+        ensures takes { TakesBell pass.old.caller (view pass.old) (view pass.new) consumer list
+            result }
         ensures there { IfSome result (λ row. IsOfList (state pass.new) list row) }
         ensures low { IfSome result (λ row.
             (row < self.now.shape.rows)
@@ -181,8 +184,8 @@ impl<C: Freight> Entries<C> {
         requires consumer { Mem consumer seat.old.me.0.consumers }
         requires list { list < self.now.shape.lists }
         ensures table { (seat.new.table_id ≡ seat.old.table_id) × (seat.new.id ≡ seat.old.id) }
-        ensures told { (n : ℕ) × at_bell (steps.TakeBell consumer list) (acts.Take consumer list) consumer
-            list seat.old.me n seat.new.me }
+        ensures told { (n : ℕ) × at_bell (steps.TakeBell consumer list) (acts.Take consumer list)
+            consumer list seat.old.me n seat.new.me }
         ensures takes { TakesBell caller seat.old.me.0 seat.new.me.0 consumer list result }
         ensures there { IfSome result (λ row. IsOfList (state_in seat.new.me.0) list row) }
         ensures low { IfSome result (λ row.
@@ -207,8 +210,8 @@ impl<C: Freight> Entries<C> {
         requires consumer { Mem consumer seat.old.me.0.consumers }
         requires list { list < self.now.shape.lists }
         ensures table { (seat.new.table_id ≡ seat.old.table_id) × (seat.new.id ≡ seat.old.id) }
-        ensures told { at_bell (steps.TakeBell consumer list) (acts.Take consumer list) consumer list
-            seat.old.me result seat.new.me }
+        ensures told { at_bell (steps.TakeBell consumer list) (acts.Take consumer list) consumer
+            list seat.old.me result seat.new.me }
     {
         let _caller = caller;
         // The table has no more consumers than bells, so this is the consumer.

@@ -1,12 +1,13 @@
 //! A row that was drawn, with the cargo that is to be linked with it.
 ghost use Rattle.std.specs.Prelude.{◌≡◌, ◌<◌};
+ghost use Rattle.queue_model.specs.Table.{most_entries};
 
 /// A row that a pass drew and has not linked, with its cargo.
 #[derive(Drop)]
 pub struct Draft<C> {
     pub(crate) row: u64,
     pub(crate) cargo: C,
-    pub ghost low: { row < 524288 },
+    pub ghost low: { row < most_entries },
 }
 
 impl<C> Draft<C> {

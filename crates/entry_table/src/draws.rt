@@ -1,5 +1,6 @@
 //! Rows that are drawn, and their draft words.
 ghost use Rattle.std.specs.Prelude.{◌≡◌, ◌≤◌, ◌<◌, ◌+◌, [], ◌∷◌, None};
+ghost use Rattle.queue_model.specs.Table.{most_entries};
 ghost use Rattle.link_core.specs.Layout.{draft_of};
 ghost use Rattle.entry_table.specs.Views.{rest_of};
 ghost use Rattle.entry_table.specs.Plays.{draws, stored, stored_view, DidDraw, DrawAnswer, IsDrawnBy, Went};
@@ -65,7 +66,7 @@ impl<C: Freight> Entries<C> {
         requires caller { seat.old.me.0.callers ≡ caller ∷ rest_of seat.old.me.0.callers }
         requires idle { seat.old.me.0.slot ≡ None }
         requires room { 1 ≤ seat.old.me.0.share }
-        requires low { row ≤ 524288 }
+        requires low { row ≤ most_entries }
         ensures table { (seat.new.table_id ≡ seat.old.table_id) × (seat.new.id ≡ seat.old.id) }
         ensures told { draws row seat.old.me result seat.new.me }
     {

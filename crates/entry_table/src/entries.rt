@@ -1,5 +1,6 @@
 //! The table.
 ghost use Rattle.link_core.specs.Layout.{words_of};
+ghost use Rattle.queue_model.specs.Table.{most_entries};
 ghost use Rattle.std.specs.Prelude.{◌≡◌, ◌+◌, ◌*◌, ◌≤◌, vec_len, vec_capacity};
 
 use crate::view::{Ruling, Shape, View};
@@ -22,7 +23,7 @@ pub struct Entries<C: Freight> {
     pub ghost wide: { table.shared.table_id.words ≡ words_of shape.rows shape.lists },
     pub ghost slots: { table.shared.table_id.slots ≡ shape.rows },
     pub ghost keyed: { table.shared.key ≡ shape },
-    pub ghost rows: { shape.rows ≤ 524288 },
+    pub ghost rows: { shape.rows ≤ most_entries },
     pub ghost lists: { shape.lists ≤ 10 },
     pub ghost consumers: { shape.consumers ≤ 64 },
 }

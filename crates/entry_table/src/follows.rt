@@ -38,7 +38,8 @@ impl<C: Freight> Entries<C> {
         ensures watched { watched pass.new ≡ watched pass.old }
         ensures follows { FollowsTo (sight pass.old) (sight pass.new) list stop result }
         ensures shown { shown pass.new ≡ shown pass.old
-            ++ entry (steps.Load (names.Link (node_at list stop))) (link_word result) (link_word result) (seen pass.new) ∷ [] }
+            ++ entry (steps.Load (names.Link (node_at list stop))) (link_word result)
+            (link_word result) (seen pass.new) ∷ [] }
         ensures low { IfSome result (λ row.
             (row < self.now.shape.rows)
             × (place_at (state pass.new) row < self.now.shape.rows)) }

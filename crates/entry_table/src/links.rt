@@ -1,5 +1,6 @@
 //! Links of rows.
 ghost use Rattle.std.specs.Prelude.{◌≡◌, ◌<◌, [], ◌∷◌, None};
+ghost use Rattle.queue_model.specs.Table.{most_entries};
 ghost use Rattle.link_core.specs.Layout.{link_of};
 ghost use Rattle.entry_table.specs.Views.{rest_of, state_in};
 ghost use Rattle.entry_table.specs.Plays.{linking, CanLink, LinkAnswer, LinkReady, AfterCall, Within};
@@ -75,7 +76,7 @@ impl<C: Freight> Entries<C> {
         requires table { seat.old.table_id ≡ self.now.table.shared.table_id }
         requires caller { seat.old.me.0.callers ≡ caller ∷ rest_of seat.old.me.0.callers }
         requires place { (link_of self.now.shape.rows after < self.now.table.shared.table_id.words)
-            × (row < 524288) }
+            × (row < most_entries) }
         requires ready { LinkReady C.goods seat.old.me caller row after }
         ensures table { (seat.new.table_id ≡ seat.old.table_id) × (seat.new.id ≡ seat.old.id) }
         ensures told { linking C.goods row after seat.old.me result seat.new.me }

@@ -1,5 +1,6 @@
 //! Tables that are made, with the entries that they start with.
 ghost use Rattle.std.specs.Prelude.{true, ◌≡◌, ℕ, ◌<◌, ◌≤◌, ◌+◌, ◌-◌, IfOk, [], ◌∷◌, ◌++◌, None, vec_len, length};
+ghost use Rattle.queue_model.specs.Table.{most_entries};
 ghost use Rattle.entry_table.specs.Views.{rest_of, drawing_at};
 ghost use Rattle.entry_table.specs.Rule.{boss};
 ghost use Rattle.entry_table.specs.Plays.{IsDrawnBy, opened_view};
@@ -46,7 +47,7 @@ impl<C: Freight> Entries<C> {
         start: Vec<(Slip, C)>,
     ) -> Result<(Entries<C>, Pass), NoMemory>
         requires lists { (0 < lists) × (lists ≤ 10) }
-        requires rows { (0 < rows) × (rows ≤ 524288) }
+        requires rows { (0 < rows) × (rows ≤ most_entries) }
         requires consumers { consumers ≤ 64 }
         requires room { vec_len start ≤ rows }
         requires start { AllMayStart C.goods lists consumers start.items }
@@ -66,7 +67,7 @@ impl<C: Freight> Entries<C> {
     // A table with no row, and the pass of the boss.
     fn blank(alloc: Global, shape: Shape) -> Result<(Entries<C>, Pass), AllocError>
         requires lists { shape.lists ≤ 10 }
-        requires rows { shape.rows ≤ 524288 }
+        requires rows { shape.rows ≤ most_entries }
         requires consumers { shape.consumers ≤ 64 }
         ensures table { IfOk result (λ r. IsPassOf r.0 r.1) }
         ensures shape { IfOk result (λ r. r.0.shape ≡ shape) }
@@ -164,7 +165,7 @@ impl<C: Freight> Entries<C> {
         requires can { CanLay C.goods (view pass.old) stop place slip cargo }
         ensures table { IsPassOf self.now pass.new }
         ensures caller { pass.new.caller ≡ 0 }
-        ensures low { result < 524288 }
+        ensures low { result < most_entries }
         ensures laid { DidLay C.goods (view pass.old) (view pass.new) slip cargo result }
     {
         self.reserve_depth(pass, slip.size);

@@ -91,7 +91,8 @@ impl<C: Freight> Entries<C> {
         requires list { list < self.now.shape.lists }
         requires place { HasPlace (state_in seat.old.me.0) list place }
         ensures table { (seat.new.table_id ≡ seat.old.table_id) × (seat.new.id ≡ seat.old.id) }
-        ensures told { stepped (steps.Mark list place) (max result place) seat.old.me result seat.new.me }
+        ensures told { stepped (steps.Mark list place) (max result place) seat.old.me result
+            seat.new.me }
     {
         let _caller = caller;
         let word = mark_place(self.shape.rows, list);
@@ -122,7 +123,8 @@ impl<C: Freight> Entries<C> {
         requires caller { seat.old.me.0.callers ≡ caller ∷ rest_of seat.old.me.0.callers }
         requires list { list < self.now.shape.lists }
         ensures table { (seat.new.table_id ≡ seat.old.table_id) × (seat.new.id ≡ seat.old.id) }
-        ensures told { stepped (steps.Count list) ((result + 1) % 2 ^ 64) seat.old.me result seat.new.me }
+        ensures told { stepped (steps.Count list) ((result + 1) % 2 ^ 64) seat.old.me result
+            seat.new.me }
     {
         let _caller = caller;
         let word = count_place(self.shape.rows, list);

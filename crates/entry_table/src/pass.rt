@@ -1,5 +1,6 @@
 //! What one caller knows of a table.
 ghost use Rattle.std.specs.Prelude.{◌≡◌, ℕ, ◌<◌, ◌≤◌, [], ◌∷◌, None};
+ghost use Rattle.acts_core.specs.Asked.{most_callers};
 ghost use Rattle.queue_model.specs.History.{own};
 ghost use Rattle.entry_table.specs.Views.{view_in, rest_of, state_in};
 ghost use Rattle.entry_table.specs.Plays.{Within};
@@ -20,7 +21,7 @@ pub struct Pass {
     pub ghost known: { badge.views ≡ view_in badge.views ∷ [] },
     pub ghost speaks: { (view_in badge.views).callers
         ≡ caller ∷ rest_of (view_in badge.views).callers },
-    pub ghost low: { caller < 4294967296 },
+    pub ghost low: { caller < most_callers },
     pub ghost idle: { (view_in badge.views).slot ≡ None },
     pub ghost within: { Within (view_in badge.views).shape
         (state_in (view_in badge.views)) } by { Within-prop _ _ },

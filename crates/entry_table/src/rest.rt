@@ -1,5 +1,6 @@
 //! What a closed table leaves.
 ghost use Rattle.std.specs.Prelude.{[], ◌≡◌, ◌<◌, ◌≤◌, ℕ, ◌+◌, ◌*◌, slice_set, length, Some, None, vec_capacity, vec_len, slice_index_or, false, Option, map};
+ghost use Rattle.queue_model.specs.Table.{most_entries};
 ghost use Rattle.std.specs.List.{AllByRecursion};
 ghost use Rattle.std.specs.Slots.{slots_items, slots_len, slots_filled, IsFull};
 ghost use mathlib.Core.Option.{some};
@@ -47,7 +48,7 @@ fn resting<C: Freight>(
 ) -> RestEntry<C>
     requires words { IsFull closed.now.words
         × (row_link_of (row + 1) ≤ slots_len closed.now.words) }
-    requires low { row < 524288 }
+    requires low { row < most_entries }
     ensures { (q : Queue) (x : Row)
         → IsFor C.goods (slots_items closed.now.words) q row list state cargo x
         → IsRest C.goods result x }
@@ -96,7 +97,7 @@ fn gather<C: Freight>(
 )
     requires words { IsFull closed.now.words
         × (head_of rows (list + 1) ≤ slots_len closed.now.words) }
-    requires small { rows ≤ 524288 }
+    requires small { rows ≤ most_entries }
     requires at { (q : Queue) × Legible (slots_items closed.now.words) rows q
         × (list < q.lists)
         × Rested C.goods q (list + 1) rest.old.items parcels.old.items
@@ -130,7 +131,7 @@ fn gather_all<C: Freight>(
     rest: &mut Vec<RestEntry<C>>,
 )
     requires words { IsFull closed.now.words × (slots_len closed.now.words ≡ words_of rows lists) }
-    requires small { rows ≤ 524288 }
+    requires small { rows ≤ most_entries }
     requires at { (q : Queue) × Legible (slots_items closed.now.words) rows q
         × (lists ≡ q.lists)
         × Rested C.goods q lists rest.old.items parcels.old.items

@@ -1,5 +1,6 @@
 //! Passes that are made and ended.
 ghost use Rattle.std.specs.Prelude.{◌≡◌, ℕ, ◌≤◌, ◌<◌, ◌+◌, ◌-◌, [], ◌∷◌, ◌++◌, None};
+ghost use Rattle.acts_core.specs.Asked.{most_callers};
 ghost use Rattle.entry_table.specs.Views.{Has, rest_of};
 ghost use Rattle.entry_table.specs.Plays.{numbered, cut_left, cut_right, noted_left, note, merged, DidSplit, Joined, Met};
 ghost use Rattle.entry_table.specs.Passes.{IsPassOf, view, opening};
@@ -18,7 +19,7 @@ impl<C: Freight> Entries<C> {
         requires table { seat.old.table_id ≡ self.now.table.shared.table_id }
         requires boss { seat.old.me.0.callers ≡ 0 ∷ rest_of seat.old.me.0.callers }
         requires idle { seat.old.me.0.slot ≡ None }
-        requires made { seat.old.me.0.made < 4294967296 }
+        requires made { seat.old.me.0.made < most_callers }
         ensures table { (seat.new.table_id ≡ seat.old.table_id) × (seat.new.id ≡ seat.old.id) }
         ensures told { numbered seat.old.me result seat.new.me }
     {
@@ -81,7 +82,7 @@ impl<C: Freight> Entries<C> {
     pub fn split(&self, boss: &mut Pass, consumers: &[u32], allowance: u64) -> Pass
         requires table { IsPassOf self.now boss.old }
         requires boss { boss.old.caller ≡ 0 }
-        requires made { (view boss.old).made < 4294967296 }
+        requires made { (view boss.old).made < most_callers }
         requires consumers { (c : ℕ) → Has c consumers.now → Has c (view boss.old).consumers }
         requires allowance { allowance ≤ (view boss.old).allowance }
         requires share { allowance ≤ (view boss.old).share }

@@ -1,6 +1,7 @@
 //! The calls of a table at a concrete cargo, on one thread.
-ghost use Rattle.std.specs.Prelude.{◌≡◌, None};
-ghost use Rattle.entry_table.specs.Passes.{IsPassOf, opening};
+ghost use Rattle.std.specs.Prelude.{◌≡◌, ◌<◌, None};
+ghost use mathlib.Core.List.{Mem};
+ghost use Rattle.entry_table.specs.Passes.{consumers, IsPassOf, Kept, opening};
 
 use crate::{Drawn, Entries, Pass};
 use acts_core::Cargo;
@@ -107,6 +108,36 @@ fn passes_part_and_join(rt: HostRuntime) -> Result<(), Fail> {
         drawn(entries.draw_row(&mut boss, Empty { id: 3 })),
         Some(1)
     );
+    Ok(())
+}
+
+/// Rings the bell of consumer 1 for the second row of the only list and then for the first, and takes it.
+fn rung_twice(entries: &Entries<Empty>, pass: &mut Pass) -> Option<u64>
+    requires table { IsPassOf entries.now pass.old }
+    requires list { 0 < entries.now.shape.lists }
+    requires consumer { 1 < entries.now.shape.consumers }
+    requires mine { Mem 1 (consumers pass.old) }
+    ensures kept { Kept pass.old pass.new }
+{
+    let first = entries.follow(pass, 0, 0)?;
+    let second = entries.follow(pass, 0, first + 1)?;
+    entries.ring(pass, 1, second);
+    let again = entries.follow(pass, 0, 0)?;
+    entries.ring(pass, 1, again);
+    entries.take_bell(pass, 1, 0)
+}
+
+/// Of two rows that a bell was rung for the earlier is answered, to the bell's consumer alone, and once.
+#[test]
+fn the_earlier_row_rings_once(rt: HostRuntime) -> Result<(), Fail> {
+    let alloc = rt.alloc();
+    let start = vec![in alloc; (slip(7), Empty { id: 7 }), (slip(9), Empty { id: 9 })]?;
+    let (entries, mut boss) = Entries::make(alloc, 1, 2, 2, start)?;
+    assert_eq!(rt; entries.consumers(), 2);
+    assert_eq!(rt; entries.take_bell(&mut boss, 1, 0), None);
+    assert_eq!(rt; rung_twice(&entries, &mut boss), Some(0));
+    assert_eq!(rt; entries.take_bell(&mut boss, 1, 0), None);
+    assert_eq!(rt; entries.take_bell(&mut boss, 0, 0), None);
     Ok(())
 }
 

@@ -74,7 +74,9 @@ impl<C: Freight> Entries<C> {
         ensures kept { Kept pass.old pass.new }
         ensures did { Did pass.old pass.new [] }
         ensures follows { FollowsTo (sight pass.old) (sight pass.new) list stop result }
-        ensures low { IfSome result (λ row. (row < self.now.shape.rows) × (place_at (state pass.new) row < self.now.shape.rows)) }
+        ensures low { IfSome result (λ row.
+            (row < self.now.shape.rows)
+            × (place_at (state pass.new) row < self.now.shape.rows)) }
         ensures watching { Watching (view pass.old) (view pass.new) (node_at list stop)
             (steps.Load (names.Link (node_at list stop))) (link_word result) }
     {
@@ -109,7 +111,8 @@ impl<C: Freight> Entries<C> {
         requires known { IsKnown (state_in seat.old.me.0) node }
         ensures table { (seat.new.table_id ≡ seat.old.table_id) × (seat.new.id ≡ seat.old.id) }
         ensures told { watching node (steps.Load (names.Link node)) seat.old.me result seat.new.me }
-        ensures watching { Watching seat.old.me.0 seat.new.me.0 node (steps.Load (names.Link node)) result }
+        ensures watching { Watching seat.old.me.0 seat.new.me.0 node
+            (steps.Load (names.Link node)) result }
     {
         let _caller = caller;
         let place = link_place(self.shape.rows, node);
