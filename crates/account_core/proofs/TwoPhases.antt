@@ -122,7 +122,8 @@ got = record {
   besides = record {
     gets = record { moment = belled; before = record { later = (_, refl); early = (_, refl) }; hands = record { row = row; found = refl; same = record { id = refl; size = refl; count = refl; content = refl; origin = refl } }; list = refl; fits = refl };
     passed = λ m from below.
-        let first : 0 ≡ m = omega (arith, below) in
+        let low : m < 1 = below in
+        let first : 0 ≡ m = omega (arith, low) in
         subst (λ (n : ℕ). Passed Forgotten q 1 0 enqueued acquired n (λ y. Precedes ByList (after (empty 1 1) acquired) y row)) first (enqueued, record { later = (_, refl); early = (_, refl) }, λ y there list before. not_before y there before);
   };
 } where
@@ -177,7 +178,8 @@ got2 = record {
   besides = record {
     gets = record { moment = deeds_of 1 (Take 0 0 ∷ []); before = record { later = (_, refl); early = (_, refl) }; hands = record { row = carried_row; found = refl; same = record { id = refl; size = refl; count = refl; content = refl; origin = refl } }; list = refl; fits = refl };
     passed = λ m from below.
-        let first : 0 ≡ m = omega (arith, below) in
+        let low : m < 1 = below in
+        let first : 0 ≡ m = omega (arith, low) in
         subst (λ (n : ℕ). Passed Forgotten q2 1 0 [] taken n (λ y. Precedes ByList (after q2.opening taken) y carried_row)) first ([], record { later = (_, refl); early = (_, refl) }, λ y there list before. not_before y there before);
   };
 } where

@@ -1,5 +1,5 @@
 -- an account of two phases with a rest between them: put 7, take; rest; take
-use Rattle.std.specs.Prelude.{◌≡◌, ℕ, true, Some, None, List, [], ◌∷◌, codes}
+use Rattle.std.specs.Prelude.{◌≡◌, ℕ, true, false, Some, None, List, [], ◌∷◌, codes}
 use Rattle.queue_model.specs.declared.deeds.Act.TheVariants as acts
 use Rattle.queue_model.specs.declared.deeds.Act.TheVariants.{Reserve, Enq, Acq, Unlock}
 use Rattle.queue_model.specs.declared.queues.Policy.TheVariants as policy

@@ -1,7 +1,6 @@
 //! A queue of any kind, its passes, and the calls that every queue offers.
-use crate::listed::{delete_listed, next_listed};
 use acts_core::{Cargo, Freight, Locking, Next, Placed, Releasing, SharedQueue, Stealing};
-use cursor_core::HeldCursors;
+use cursor_core::PassCursors;
 use entry_table::{Entries, Pass};
 use queue_model::{Depth, Slip};
 
@@ -18,7 +17,7 @@ pub struct ListedPass {
     /// The pass of its table.
     pub pass: Pass,
     /// The cursors of its consumers.
-    pub cursors: HeldCursors,
+    pub cursors: PassCursors,
 }
 
 /// A pass of a queue of any kind.
@@ -50,7 +49,7 @@ impl<C: Cargo + Sync> SharedQueue<C> for AnyQueue<C> {
     fn depth(&self, pass: &mut AnyPass) -> Depth {
         match self {
             AnyQueue::Listed(entries) => match pass {
-                AnyPass::Listed(listed) => entry_calls::depth(entries, &mut listed.pass),
+                AnyPass::Listed(listed) => listed.depth(entries),
             },
         }
     }
@@ -58,7 +57,7 @@ impl<C: Cargo + Sync> SharedQueue<C> for AnyQueue<C> {
     fn reserve(&self, pass: &mut AnyPass, size: u64) -> Depth {
         match self {
             AnyQueue::Listed(entries) => match pass {
-                AnyPass::Listed(listed) => entry_calls::reserve(entries, &mut listed.pass, size),
+                AnyPass::Listed(listed) => listed.reserve(entries, size),
             },
         }
     }
@@ -66,7 +65,7 @@ impl<C: Cargo + Sync> SharedQueue<C> for AnyQueue<C> {
     fn give_back(&self, pass: &mut AnyPass, size: u64) {
         match self {
             AnyQueue::Listed(entries) => match pass {
-                AnyPass::Listed(listed) => entry_calls::give_back(entries, &mut listed.pass, size),
+                AnyPass::Listed(listed) => listed.give_back(entries, size),
             },
         }
     }
@@ -74,7 +73,7 @@ impl<C: Cargo + Sync> SharedQueue<C> for AnyQueue<C> {
     fn put(&self, pass: &mut AnyPass, slip: Slip, cargo: C) -> Placed<C> {
         match self {
             AnyQueue::Listed(entries) => match pass {
-                AnyPass::Listed(listed) => entry_calls::enqueue(entries, &mut listed.pass, &slip, cargo),
+                AnyPass::Listed(listed) => listed.put(entries, &slip, cargo),
             },
         }
     }
@@ -89,7 +88,7 @@ impl<C: Cargo + Sync> SharedQueue<C> for AnyQueue<C> {
     {
         match self {
             AnyQueue::Listed(entries) => match pass {
-                AnyPass::Listed(listed) => next_listed(entries, listed, consumer),
+                AnyPass::Listed(listed) => listed.next(entries, consumer),
             },
         }
     }
@@ -97,7 +96,7 @@ impl<C: Cargo + Sync> SharedQueue<C> for AnyQueue<C> {
     fn oldest(&self, pass: &mut AnyPass) -> Next<C> {
         match self {
             AnyQueue::Listed(entries) => match pass {
-                AnyPass::Listed(listed) => cursor_core::oldest(entries, &mut listed.pass),
+                AnyPass::Listed(listed) => listed.oldest(entries),
             },
         }
     }
@@ -105,7 +104,7 @@ impl<C: Cargo + Sync> SharedQueue<C> for AnyQueue<C> {
     fn find(&self, pass: &mut AnyPass, id: u64) -> Option<u64> {
         match self {
             AnyQueue::Listed(entries) => match pass {
-                AnyPass::Listed(listed) => entry_calls::find(entries, &mut listed.pass, id),
+                AnyPass::Listed(listed) => listed.find(entries, id),
             },
         }
     }
@@ -113,7 +112,7 @@ impl<C: Cargo + Sync> SharedQueue<C> for AnyQueue<C> {
     fn lock(&self, pass: &mut AnyPass, row: u64) -> Locking<C> {
         match self {
             AnyQueue::Listed(entries) => match pass {
-                AnyPass::Listed(listed) => entry_calls::lock(entries, &mut listed.pass, row),
+                AnyPass::Listed(listed) => listed.lock(entries, row),
             },
         }
     }
@@ -121,7 +120,7 @@ impl<C: Cargo + Sync> SharedQueue<C> for AnyQueue<C> {
     fn unlock(&self, pass: &mut AnyPass, row: u64, cargo: C) {
         match self {
             AnyQueue::Listed(entries) => match pass {
-                AnyPass::Listed(listed) => entry_calls::unlock(entries, &mut listed.pass, row, cargo),
+                AnyPass::Listed(listed) => listed.unlock(entries, row, cargo),
             },
         }
     }
@@ -130,7 +129,7 @@ impl<C: Cargo + Sync> SharedQueue<C> for AnyQueue<C> {
         match self {
             AnyQueue::Listed(entries) => match pass {
                 AnyPass::Listed(listed) => {
-                    entry_calls::release(entries, &mut listed.pass, row, cargo);
+                    listed.release(entries, row, cargo);
                     Releasing::Released
                 }
             },
@@ -140,7 +139,7 @@ impl<C: Cargo + Sync> SharedQueue<C> for AnyQueue<C> {
     fn steal(&self, pass: &mut AnyPass, row: u64) -> Stealing<C> {
         match self {
             AnyQueue::Listed(entries) => match pass {
-                AnyPass::Listed(listed) => entry_calls::steal(entries, &mut listed.pass, row),
+                AnyPass::Listed(listed) => listed.steal(entries, row),
             },
         }
     }
@@ -148,7 +147,7 @@ impl<C: Cargo + Sync> SharedQueue<C> for AnyQueue<C> {
     fn dequeue(&self, pass: &mut AnyPass, row: u64) {
         match self {
             AnyQueue::Listed(entries) => match pass {
-                AnyPass::Listed(listed) => entry_calls::dequeue(entries, &mut listed.pass, row),
+                AnyPass::Listed(listed) => listed.dequeue(entries, row),
             },
         }
     }
@@ -163,7 +162,7 @@ impl<C: Cargo + Sync> SharedQueue<C> for AnyQueue<C> {
     {
         match self {
             AnyQueue::Listed(entries) => match pass {
-                AnyPass::Listed(listed) => delete_listed(entries, listed, row),
+                AnyPass::Listed(listed) => listed.delete(entries, row),
             },
         }
     }

@@ -8,6 +8,8 @@ mod passes;
 pub use kinds::{AnyPass, AnyQueue, ListedPass};
 
 #[cfg(test)]
+mod cursor_tests;
+#[cfg(test)]
 mod shared_tests;
 #[cfg(test)]
 mod tests;

@@ -15,7 +15,7 @@ ghost use Rattle.any_queue.specs.Parting.{IsOfLists, IsFresh, MayPart, IsSplit, 
 use crate::kinds::{AnyPass, AnyQueue, ListedPass};
 use acts_core::{Freight, RestEntry};
 use byte_lists::NoMemory;
-use cursor_core::HeldCursors;
+use cursor_core::PassCursors;
 use defs_read::{QueueDef, QueueKind};
 use entry_table::{Entries, Pass};
 use queue_model::Slip;
@@ -60,7 +60,7 @@ impl<C: Freight> AnyQueue<C> {
         ) {
             Ok((entries, pass)) => {
                 let consumers = def.consumers.len() as u32;
-                let cursors = HeldCursors::fresh(&pass, consumers, entries.lists());
+                let cursors = PassCursors::fresh(&pass, consumers, entries.lists());
                 let boss = ListedPass { pass, cursors };
                 Ok((AnyQueue::Listed(entries), AnyPass::Listed(boss)))
             }

@@ -79,9 +79,9 @@ first_own s c slots k own from =
     ap (λ (z : Cursor). z.consumer) (sym is) ∙ own.consumer
 
 -- the cursors after a call of next
-pub held_on : {C : Type 0} (load : C → Load) (build : Build) (old new : Sight) (c : ℕ) (slots now : List (Option Cursor)) (o : Option Cursor) (result : Next C) → c < length slots → ((d : ℕ) → cursor_at now d ≡ cursor_at (slice_set slots c o) d) → new.consumers ≡ old.consumers → Mem c old.consumers → AreTrueOf old slots → GoesOn load build old new (cursor_at slots c) o result
+pub true_next : {C : Type 0} (load : C → Load) (build : Build) (old new : Sight) (c : ℕ) (slots now : List (Option Cursor)) (o : Option Cursor) (result : Next C) → c < length slots → ((d : ℕ) → cursor_at now d ≡ cursor_at (slice_set slots c o) d) → new.consumers ≡ old.consumers → Mem c old.consumers → AreTrueOf old slots → GoesOn load build old new (cursor_at slots c) o result
     → AreTrueOf new now
-held_on load build old new c slots now o result within is_now same mem t g =
+true_next load build old new c slots now o result within is_now same mem t g =
     let mine : g.first.consumer ≡ c = first_own old c slots g.first (t.own c mem) g.from in
     record {
       own = λ d has.
@@ -137,8 +137,8 @@ set_same slots c o within is d = ⊎_elim
 -- Other calls
 
 -- the cursors after a call that takes no bell
-pub held_last : (build : Build) (old new : Sight) (call : Call) (answer : Answer) (slots : List (Option Cursor)) → Called build old new call answer → ((c : ℕ) → call ≢ CallNext c) → AreTrueOf old slots → AreTrueOf new slots
-held_last build old new call answer slots m other t =
+pub true_last : (build : Build) (old new : Sight) (call : Call) (answer : Answer) (slots : List (Option Cursor)) → Called build old new call answer → ((c : ℕ) → call ≢ CallNext c) → AreTrueOf old slots → AreTrueOf new slots
+true_last build old new call answer slots m other t =
     let same : new.consumers ≡ old.consumers = ap (λ (s : Sight). s.consumers) m.rest in
     record {
       own = λ c mem.

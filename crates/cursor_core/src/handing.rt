@@ -11,15 +11,15 @@ ghost use Rattle.cursor_core.specs.Holding.{cursor_at, or_other, IsOwn, AreTrueO
 
 use crate::cursor::Cursor;
 use crate::cursors::next;
-use crate::held::{HeldCursors, MOST_CONSUMERS};
+use crate::pass_cursors::{MOST_CONSUMERS, PassCursors};
 use acts_core::{Freight, Next};
 use entry_table::{Entries, Pass};
 use std::array;
 
-impl HeldCursors {
+impl PassCursors {
     /// The cursors of a pass that has the first consumers of its queue, so many: each stands before the first
     /// entry of each list.
-    pub fn fresh(pass: &Pass, consumers: u32, lists: u32) -> HeldCursors
+    pub fn fresh(pass: &Pass, consumers: u32, lists: u32) -> PassCursors
         requires consumers { consumers ≤ 64 }
         requires lists { lists ≤ 10 }
         ensures fresh { AreFresh (sight pass.now) consumers result.slots }
@@ -28,7 +28,7 @@ impl HeldCursors {
         for consumer in 0..consumers {
             slots[consumer as usize] = Some(Cursor::fresh(pass, consumer, lists));
         }
-        HeldCursors { slots }
+        PassCursors { slots }
     }
 
     /// Acquires the next entry for a consumer, from its cursor on, as `next`. The cursors stay true.
@@ -53,7 +53,7 @@ impl HeldCursors {
     }
 
     /// Takes the cursors of these consumers out, as those of another pass.
-    pub fn hand(&mut self, consumers: &[u32]) -> HeldCursors
+    pub fn hand(&mut self, consumers: &[u32]) -> PassCursors
         requires few { AllByRecursion (λ c. c < 64) consumers.now }
         ensures handed { AreHanded consumers.now self.old.slots self.new.slots result.slots }
     {
@@ -61,15 +61,15 @@ impl HeldCursors {
         for i in 0..consumers.len() {
             hand_one(&mut self.slots, &mut slots, consumers[i] as usize);
         }
-        HeldCursors { slots }
+        PassCursors { slots }
     }
 
     /// Takes in all cursors of another pass, beside its own.
-    pub fn take_in(&mut self, gone: HeldCursors)
+    pub fn take_in(&mut self, gone: PassCursors)
         ensures taken { (c : ℕ) → cursor_at self.new.slots c
             ≡ or_other (cursor_at gone.slots c) (cursor_at self.old.slots c) }
     {
-        let HeldCursors { slots } = gone;
+        let PassCursors { slots } = gone;
         let mut slots = slots;
         for i in 0..MOST_CONSUMERS {
             hand_one(&mut slots, &mut self.slots, i);

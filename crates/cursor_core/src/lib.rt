@@ -5,11 +5,11 @@
 mod cursor;
 mod cursors;
 mod handing;
-mod held;
 pub mod laws;
+mod pass_cursors;
 mod takes;
 mod walks;
 
 pub use cursor::{Cursor, MOST_LISTS};
 pub use cursors::{next, oldest};
-pub use held::{HeldCursors, MOST_CONSUMERS};
+pub use pass_cursors::{MOST_CONSUMERS, PassCursors};

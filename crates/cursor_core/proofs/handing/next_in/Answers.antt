@@ -5,7 +5,7 @@ use Rattle.acts_core.specs.Replies.{of_next}
 use Rattle.entry_table.specs.Sights.{build_of, sight}
 use Rattle.cursor_core.specs.declared.cursor.Cursor.{Cursor}
 use Rattle.cursor_core.specs.Holding.{GoesOn}
-use Rattle.cursor_core.proofs.Slots.{any_default, below_places, first_own, held_on, walks_on}
+use Rattle.cursor_core.proofs.Slots.{any_default, below_places, first_own, true_next, walks_on}
 use Rattle.cursor_core.proofs.handing.next_in.Goals as goal
 
 pub returns-clause-called : goal.returns-clause-called
@@ -30,7 +30,7 @@ returns-clause-truth g c =
     let places = c.requires.places in
     let within : c.args.consumer < length slots = omega (arith, low, places) in
     let here = any_default slots c.args.consumer c.index-slots-consumer.result None within in
-    held_on g.C.Freight.goods (build_of c.args.entries.now) old new c.args.consumer slots _ c.next_at.new.slot c.next_at.result within (λ d. refl) c.next_at.ensures.kept.consumers c.requires.consumer c.requires.truth
+    true_next g.C.Freight.goods (build_of c.args.entries.now) old new c.args.consumer slots _ c.next_at.new.slot c.next_at.result within (λ d. refl) c.next_at.ensures.kept.consumers c.requires.consumer c.requires.truth
     (subst (λ (o : Option Cursor). GoesOn g.C.Freight.goods (build_of c.args.entries.now) old new o c.next_at.new.slot c.next_at.result) here c.next_at.ensures.goes)
 
 pub returns-clause-walks : goal.returns-clause-walks

@@ -1,7 +1,7 @@
 use Rattle.std.proofs.Common.{arith, length-set, ◌∙◌}
 use Rattle.entry_table.specs.Sights.{sight}
 use Rattle.cursor_core.proofs.Slots.{fresh_more}
-use Rattle.cursor_core.proofs.held.HeldCursors.fresh.Goals as goal
+use Rattle.cursor_core.proofs.pass_cursors.PassCursors.fresh.Goals as goal
 
 pub invariant_of-result : goal.invariant_of-result
 invariant_of-result c = record { places = c.loop-consumer.invariant.places }

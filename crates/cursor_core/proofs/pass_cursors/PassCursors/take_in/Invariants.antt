@@ -1,6 +1,6 @@
 use Rattle.std.proofs.Common.{◌≡◌, length}
 use Rattle.cursor_core.proofs.Slots.{TakenBelow}
-use Rattle.cursor_core.proofs.held.HeldCursors.take_in.Given as goal
+use Rattle.cursor_core.proofs.pass_cursors.PassCursors.take_in.Given as goal
 
 -- the cursors of the first places were taken in
 abbrev pub invariant-loop-i : goal.invariant-loop-i

@@ -1,6 +1,6 @@
 use Rattle.std.proofs.Common.{◌≡◌, length, take}
 use Rattle.cursor_core.specs.Holding.{AreHanded}
-use Rattle.cursor_core.proofs.held.HeldCursors.hand.Given as goal
+use Rattle.cursor_core.proofs.pass_cursors.PassCursors.hand.Given as goal
 
 -- the cursors of the first consumers went over
 abbrev pub invariant-loop-i : goal.invariant-loop-i

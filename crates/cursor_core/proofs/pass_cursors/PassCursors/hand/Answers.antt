@@ -2,7 +2,7 @@ use Rattle.std.proofs.Common.{List, ℕ, get_or, take, sym, subst, arith}
 use Rattle.std.proofs.lemmas.List.{take_more}
 use Rattle.cursor_core.specs.Holding.{AreHanded}
 use Rattle.cursor_core.proofs.Slots.{handed_more, all_in}
-use Rattle.cursor_core.proofs.held.HeldCursors.hand.Goals as goal
+use Rattle.cursor_core.proofs.pass_cursors.PassCursors.hand.Goals as goal
 
 pub loop-i-preserved : goal.loop-i-preserved
 loop-i-preserved c =
