@@ -3,7 +3,7 @@ use Rattle.std.proofs.Common.{◌≡◌, ℕ, suc, ◌+◌, ◌<◌, List, [], �
 use mathlib.Core.List.{Mem, mem-cons_of_mem, mem-cons_self}
 use Rattle.queue_model.specs.declared.deeds.Deed.{Deed}
 use Rattle.queue_model.specs.declared.rows.Slip.{Slip}
-use Rattle.queue_model.specs.History.{own, after}
+use Rattle.queue_model.specs.History.{own, after, Legal}
 use Rattle.acts_core.specs.Load.{Load}
 use Rattle.acts_core.specs.Sight.{Build, Sight}
 use Rattle.entry_table.specs.declared.entries.Entries.{Entries}
@@ -12,7 +12,7 @@ use Rattle.entry_table.specs.declared.view.Shape.{Shape}
 use Rattle.entry_table.specs.Passes.{view, opening, seen, callers, allowance, share}
 use Rattle.entry_table.specs.Plays.{Steps, DidSplit, Joined}
 use Rattle.entry_table.specs.Rule.{below}
-use Rattle.entry_table.specs.Sights.{sight, build_of}
+use Rattle.entry_table.specs.Sights.{sight, build_of, Serves}
 use Rattle.entry_table.specs.Starting.{IsMade}
 use Rattle.entry_table.specs.Views.{Has, caller_of, rest_of}
 use Rattle.entry_table.proofs.Concerning.{in_has}
@@ -71,6 +71,10 @@ is_fresh load lists rows consumed start e p m = record {
     turns = 0;
   };
 }
+
+-- the table serves the boss's pass, which has seen nothing
+pub made_serves : {C : Type 0} (load : C → Load) (lists rows consumed : ℕ) (start : List (Slip × C)) (e : Entries C) (p : Pass) → IsMade load lists rows consumed start e p → Serves e p
+made_serves load lists rows consumed start e p m = record { pass = m.pass; legal = subst (Legal (opening p)) (sym m.seen_is) tt; opening = m.opened }
 
 pub is_split : (old new made : Pass) (cs : List ℕ) (n : ℕ) → old.caller ≡ 0 → new.caller ≡ old.caller → made.caller ≡ (view old).made → DidSplit (view old) (view new) (view made) cs n → IsSplit (sight old) (sight new) (sight made) cs n
 is_split old new made cs n boss same number d = record {

@@ -58,7 +58,12 @@ impl ListedPass {
     }
 
     /// Puts an entry, in place of a reserved one of its size.
-    pub(crate) fn put<C: Freight>(&mut self, entries: &Entries<C>, slip: &Slip, cargo: C) -> Placed<C>
+    pub(crate) fn put<C: Freight>(
+        &mut self,
+        entries: &Entries<C>,
+        slip: &Slip,
+        cargo: C,
+    ) -> Placed<C>
         requires serves { ServesListed entries.now self.old }
         requires may { MayPut Listed (state self.old.pass) self.old.pass.caller slip.now (C.goods cargo) }
         ensures serves { ServesListed entries.now self.new }

@@ -8,10 +8,10 @@ use Rattle.any_queue.proofs.passes.split_listed.Goals as goal
 pub split-pass-requires-clause-consumers : goal.split-pass-requires-clause-consumers
 split-pass-requires-clause-consumers g c = parts c.args.boss.now.pass c.args.consumers.now c.args.allowance c.requires.may
 
-pub hand-cursors-requires-clause-few : goal.hand-cursors-requires-clause-few
-hand-cursors-requires-clause-few g c =
+pub hand-cursors-requires : goal.hand-cursors-requires
+hand-cursors-requires g c =
     let old = c.args.boss.now in
-    all_below (sight old.pass) old.cursors.slots 64 c.args.consumers.now c.requires.serves.cursors old.cursors.places c.requires.may.has
+    record { few = all_below (sight old.pass) old.cursors.slots 64 c.args.consumers.now c.requires.serves.cursors old.cursors.places c.requires.may.has }
 
 pub returns-clause-serves : goal.returns-clause-serves
 returns-clause-serves g c =
