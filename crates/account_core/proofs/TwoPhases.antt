@@ -4,7 +4,7 @@ use Rattle.std.specs.Int.{bit_at}
 use Rattle.std.specs.Fmt.{digits}
 use Rattle.std.proofs.lemmas.Nat.Bits.{bit_at_ones_above}
 use Rattle.std.proofs.lemmas.Bool.{cases_eq}
-use Rattle.queue_model.specs.declared.deeds.Act.TheVariants.{Reserve, Enq, Acq}
+use Rattle.queue_model.specs.declared.deeds.Act.TheVariants.{Reserve, Enq, Acq, Take}
 use Rattle.queue_model.specs.declared.deeds.Deed.{Deed}
 use Rattle.queue_model.specs.declared.rows.Row.{Row}
 use Rattle.queue_model.specs.declared.rows.RowState.TheVariants.{Available, Locked, Unlocked}
@@ -12,7 +12,9 @@ use Rattle.queue_model.specs.History.{after, Legal, deeds_of}
 use Rattle.queue_model.specs.State.{row_at, empty, place_at}
 use Rattle.message_core.specs.Spelling.{Content, content}
 use Rattle.defs_read.specs.Slips.{IsSlip, IsMask}
-use Rattle.acts_core.specs.Sight.{Plan}
+use Rattle.queue_model.specs.Order.{Precedes, ByList}
+use Rattle.acts_core.specs.Lists.{Passed}
+use Rattle.acts_core.specs.Sight.{Plan, Forgotten}
 use Rattle.acts_core.specs.Calls.{CallReserve, CallPut, CallNext, CallUnlock, IsDepth, IsAt, IsGot, IsDone}
 use Rattle.acts_core.specs.Chains.{Made, Quiet, Chain}
 use Rattle.acts_core.specs.Meaning.{Meets}
@@ -88,7 +90,11 @@ abbrev enqueued : List Deed
 enqueued = deeds_of 1 (Reserve 16 ∷ (Enq 0 slip (content message) (0 ∷ []) 0 ∷ []))
 
 abbrev acquired : List Deed
-acquired = deeds_of 1 (Reserve 16 ∷ (Enq 0 slip (content message) (0 ∷ []) 0 ∷ (Acq 0 ∷ [])))
+acquired = deeds_of 1 (Reserve 16 ∷ (Enq 0 slip (content message) (0 ∷ []) 0 ∷ (Take 0 0 ∷ (Acq 0 ∷ []))))
+
+-- the bell was taken
+abbrev belled : List Deed
+belled = deeds_of 1 (Reserve 16 ∷ (Enq 0 slip (content message) (0 ∷ []) 0 ∷ (Take 0 0 ∷ [])))
 
 abbrev row : Row
 row = record { number = 0; slip = slip; state = Available; content = content message; origin = 0 ∷ []; count = 0 }
@@ -103,10 +109,10 @@ legal2 : Legal (empty 1 1) enqueued
 legal2 = ((omega arith, omega arith), (record { new = refl; fits = record { size = omega arith; list = omega arith; mask = omega arith }; reserved = record { entry = omega arith; bytes = omega arith; rest = omega arith } }, tt))
 
 legal3 : Legal (empty 1 1) acquired
-legal3 = (legal2.0, (legal2.1.0, ((row, refl, refl), tt)))
+legal3 = (legal2.0, (legal2.1.0, ((omega arith, omega arith), ((row, refl, refl), tt))))
 
 legal4 : Legal (empty 1 1) played_first.history
-legal4 = (legal2.0, (legal2.1.0, ((row, refl, refl), ((locked, refl, refl), tt))))
+legal4 = (legal2.0, (legal2.1.0, ((omega arith, omega arith), ((row, refl, refl), ((locked, refl, refl), tt)))))
 
 got : Meets q 1 enqueued acquired (CallNext 0) (IsGot 0 0 load)
 got = record {
@@ -114,8 +120,11 @@ got = record {
   legal = legal3;
   own_acts = refl;
   besides = record {
-    gets = record { moment = enqueued; before = record { later = (_, refl); early = (_, refl) }; hands = record { row = row; found = refl; same = record { id = refl; size = refl; count = refl; content = refl; origin = refl } }; list = refl; fits = refl };
-    passed = λ m from below. (enqueued, (record { later = (_, refl); early = (_, refl) }, tt), λ y there list before. not_before y there before);
+    gets = record { moment = belled; before = record { later = (_, refl); early = (_, refl) }; hands = record { row = row; found = refl; same = record { id = refl; size = refl; count = refl; content = refl; origin = refl } }; list = refl; fits = refl };
+    passed = λ m from below.
+        let low : m < 1 = below in
+        let first : 0 ≡ m = omega (arith, low) in
+        subst (λ (n : ℕ). Passed Forgotten q 1 0 enqueued acquired n (λ y. Precedes ByList (after (empty 1 1) acquired) y row)) first (enqueued, record { later = (_, refl); early = (_, refl) }, λ y there list before. not_before y there before);
   };
 } where
   not_before : {P : Type 0} (y : Row) → find (λ (z : Row). z.number == y.number) (row ∷ []) ≡ Some y → (0 < y.slip.list) ⊎ ((y.slip.list ≡ 0) × (place_at (after (empty 1 1) acquired) y.number < 0)) → P
@@ -153,13 +162,13 @@ abbrev q2 : Plan
 q2 = played_second.plan
 
 abbrev taken : List Deed
-taken = deeds_of 1 (Acq 0 ∷ [])
+taken = deeds_of 1 (Take 0 0 ∷ (Acq 0 ∷ []))
 
 legal5 : Legal q2.opening taken
-legal5 = ((carried_row, refl, refl), tt)
+legal5 = ((omega arith, omega arith), ((carried_row, refl, refl), tt))
 
 legal6 : Legal q2.opening played_second.history
-legal6 = ((carried_row, refl, refl), ((record carried_row { state = Locked 1 }, refl, refl), tt))
+legal6 = ((omega arith, omega arith), ((carried_row, refl, refl), ((record carried_row { state = Locked 1 }, refl, refl), tt)))
 
 got2 : Meets q2 1 [] taken (CallNext 0) (IsGot 0 0 (delivered 1 load))
 got2 = record {
@@ -167,8 +176,11 @@ got2 = record {
   legal = legal5;
   own_acts = refl;
   besides = record {
-    gets = record { moment = []; before = record { later = (_, refl); early = (_, refl) }; hands = record { row = carried_row; found = refl; same = record { id = refl; size = refl; count = refl; content = refl; origin = refl } }; list = refl; fits = refl };
-    passed = λ m from below. ([], (record { later = (_, refl); early = (_, refl) }, tt), λ y there list before. not_before y there before);
+    gets = record { moment = deeds_of 1 (Take 0 0 ∷ []); before = record { later = (_, refl); early = (_, refl) }; hands = record { row = carried_row; found = refl; same = record { id = refl; size = refl; count = refl; content = refl; origin = refl } }; list = refl; fits = refl };
+    passed = λ m from below.
+        let low : m < 1 = below in
+        let first : 0 ≡ m = omega (arith, low) in
+        subst (λ (n : ℕ). Passed Forgotten q2 1 0 [] taken n (λ y. Precedes ByList (after q2.opening taken) y carried_row)) first ([], record { later = (_, refl); early = (_, refl) }, λ y there list before. not_before y there before);
   };
 } where
   not_before : {P : Type 0} (y : Row) → find (λ (z : Row). z.number == y.number) (carried_row ∷ []) ≡ Some y → (0 < y.slip.list) ⊎ ((y.slip.list ≡ 0) × (place_at (after q2.opening taken) y.number < 0)) → P
@@ -191,7 +203,7 @@ one_of x y zero found = (refl, cc)
 one_of x y (suc i) found = absurd (cc)
 
 first_played : IsPlayed 0 (first ∷ []) played_first
-first_played = record { legal = legal4; callers = (by_one _ refl, (by_one _ refl, (by_one _ refl, (by_one _ refl, tt)))); makes = makes; rests = rests } where
+first_played = record { legal = legal4; callers = (by_one _ refl, (by_one _ refl, (by_one _ refl, (by_one _ refl, (by_one _ refl, tt))))); makes = makes; rests = rests } where
   makes : (i : ℕ) (s : Story) → slice_get (first ∷ []) i ≡ Some s → Makes q (i + 1) played_first.history (calls_on 0 (calls_of s))
   makes i s found = let (at, is) = one_of first s i found in subst (λ (t : Story). Makes q (i + 1) played_first.history (calls_on 0 (calls_of t))) is (subst (λ (n : ℕ). Makes q (n + 1) played_first.history (calls_on 0 (calls_of first))) (sym at) (record { made = made; same = refl; chain = chain; own_acts = refl }))
 
@@ -199,7 +211,7 @@ first_played = record { legal = legal4; callers = (by_one _ refl, (by_one _ refl
   rests r x found = subst (λ (y : Row). Rests y.state) (only (record row { state = Unlocked 1; count = 1 }) x r found).1 tt
 
 second_played : IsPlayed 0 (second ∷ []) played_second
-second_played = record { legal = legal6; callers = (by_one _ refl, (by_one _ refl, tt)); makes = makes; rests = rests } where
+second_played = record { legal = legal6; callers = (by_one _ refl, (by_one _ refl, (by_one _ refl, tt))); makes = makes; rests = rests } where
   makes : (i : ℕ) (s : Story) → slice_get (second ∷ []) i ≡ Some s → Makes q2 (i + 1) played_second.history (calls_on 0 (calls_of s))
   makes i s found = let (at, is) = one_of second s i found in subst (λ (t : Story). Makes q2 (i + 1) played_second.history (calls_on 0 (calls_of t))) is (subst (λ (n : ℕ). Makes q2 (n + 1) played_second.history (calls_on 0 (calls_of second))) (sym at) (record { made = made2; same = refl; chain = chain2; own_acts = refl }))
 

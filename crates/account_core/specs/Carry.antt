@@ -60,8 +60,9 @@ kind_of (kinds.Priority n) = Listed
 kind_of (kinds.Sorted key) = Sorted
 kind_of (kinds.LastValue key) = LastValue
 
--- whether queues of a kind ring and take bells: none does yet
+-- whether queues of a kind ring and take bells
 abbrev pub uses_bells : Kind → Bool
+uses_bells Listed = true
 uses_bells kind = false
 
 -- a queue of this definition opens with these rows; all are available, and there are no bells and no reservations

@@ -1,5 +1,6 @@
 -- an account of two phases with a rest between them: put 7, take; rest; take
-use Rattle.std.specs.Prelude.{◌≡◌, ℕ, false, Some, None, List, [], ◌∷◌, codes}
+use Rattle.std.specs.Prelude.{◌≡◌, ℕ, true, false, Some, None, List, [], ◌∷◌, codes}
+use Rattle.queue_model.specs.declared.deeds.Act.TheVariants as acts
 use Rattle.queue_model.specs.declared.deeds.Act.TheVariants.{Reserve, Enq, Acq, Unlock}
 use Rattle.queue_model.specs.declared.queues.Policy.TheVariants as policy
 use Rattle.queue_model.specs.declared.rows.Row.{Row}
@@ -77,8 +78,9 @@ first = record {
 
 abbrev pub played_first : Played
 played_first = record {
-  plan = record { opening = empty 1 1; kind = Listed; bells = false };
-  history = deeds_of 1 (Reserve 16 ∷ (Enq 0 slip (content message) (0 ∷ []) 0 ∷ (Acq 0 ∷ (Unlock 0 1 ∷ []))));
+  plan = record { opening = empty 1 1; kind = Listed; bells = true };
+  history = deeds_of 1
+      (Reserve 16 ∷ (Enq 0 slip (content message) (0 ∷ []) 0 ∷ (acts.Take 0 0 ∷ (Acq 0 ∷ (Unlock 0 1 ∷ [])))));
 }
 
 -- the second, which opens with the entry, available, and with its count
@@ -98,8 +100,8 @@ carried_row =
 
 abbrev pub played_second : Played
 played_second = record {
-  plan = record { opening = record (empty 1 1) { rows = carried_row ∷ [] }; kind = Listed; bells = false };
-  history = deeds_of 1 (Acq 0 ∷ (Unlock 0 2 ∷ []));
+  plan = record { opening = record (empty 1 1) { rows = carried_row ∷ [] }; kind = Listed; bells = true };
+  history = deeds_of 1 (acts.Take 0 0 ∷ (Acq 0 ∷ (Unlock 0 2 ∷ [])));
 }
 
 abbrev pub accounts : List Account

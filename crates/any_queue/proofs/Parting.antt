@@ -3,21 +3,22 @@ use Rattle.std.proofs.Common.{◌≡◌, ℕ, suc, ◌+◌, ◌<◌, List, [], �
 use mathlib.Core.List.{Mem, mem-cons_of_mem, mem-cons_self}
 use Rattle.queue_model.specs.declared.deeds.Deed.{Deed}
 use Rattle.queue_model.specs.declared.rows.Slip.{Slip}
-use Rattle.queue_model.specs.History.{own, after}
+use Rattle.queue_model.specs.History.{own, after, Legal}
 use Rattle.acts_core.specs.Load.{Load}
-use Rattle.acts_core.specs.Sight.{Build, silent_lists, Sight}
+use Rattle.acts_core.specs.Sight.{Build, Sight}
 use Rattle.entry_table.specs.declared.entries.Entries.{Entries}
 use Rattle.entry_table.specs.declared.pass.Pass.{Pass}
 use Rattle.entry_table.specs.declared.view.Shape.{Shape}
 use Rattle.entry_table.specs.Passes.{view, opening, seen, callers, allowance, share}
 use Rattle.entry_table.specs.Plays.{Steps, DidSplit, Joined}
 use Rattle.entry_table.specs.Rule.{below}
-use Rattle.entry_table.specs.Sights.{sight, build_of}
+use Rattle.entry_table.specs.Sights.{sight, build_of, Serves}
 use Rattle.entry_table.specs.Starting.{IsMade}
 use Rattle.entry_table.specs.Views.{Has, caller_of, rest_of}
 use Rattle.entry_table.proofs.Concerning.{in_has}
 use Rattle.entry_table.proofs.Sighting.{mem_in, others_stay}
 use Rattle.entry_table.proofs.Serving.{sight_boss, sight_made, sight_joined}
+use Rattle.any_queue.specs.Kinds.{belled_lists}
 use Rattle.any_queue.specs.Parting.{IsFresh, MayPart, IsSplit, IsJoined, IsLast}
 
 -- Members
@@ -50,7 +51,7 @@ idle_ended p s1 t k m =
 
 pub is_fresh : {C : Type 0} (load : C → Load) (lists rows consumed : ℕ) (start : List (Slip × C)) (e : Entries C) (p : Pass) → IsMade load lists rows consumed start e p → IsFresh load lists rows consumed start (build_of e) (sight p)
 is_fresh load lists rows consumed start e p m = record {
-  build_is = ap silent_lists m.rows_is;
+  build_is = ap belled_lists m.rows_is;
   lists_is = ap (λ (l : List Deed). (after (opening p) l).lists) (sym m.seen_is) ∙ p.within.lists ∙ ap (λ (z : Shape). z.lists) m.pass.shape ∙ m.lists_is;
   consumers_is = ap (λ (l : List Deed). (after (opening p) l).consumers) (sym m.seen_is) ∙ p.within.consumers ∙ ap (λ (z : Shape). z.consumers) m.pass.shape ∙ m.consumers_is;
   opened = m.opened;
@@ -70,6 +71,10 @@ is_fresh load lists rows consumed start e p m = record {
     turns = 0;
   };
 }
+
+-- the table serves the boss's pass, which has seen nothing
+pub made_serves : {C : Type 0} (load : C → Load) (lists rows consumed : ℕ) (start : List (Slip × C)) (e : Entries C) (p : Pass) → IsMade load lists rows consumed start e p → Serves e p
+made_serves load lists rows consumed start e p m = record { pass = m.pass; legal = subst (Legal (opening p)) (sym m.seen_is) tt; opening = m.opened }
 
 pub is_split : (old new made : Pass) (cs : List ℕ) (n : ℕ) → old.caller ≡ 0 → new.caller ≡ old.caller → made.caller ≡ (view old).made → DidSplit (view old) (view new) (view made) cs n → IsSplit (sight old) (sight new) (sight made) cs n
 is_split old new made cs n boss same number d = record {

@@ -8,7 +8,7 @@ use Rattle.queue_model.specs.declared.rows.Slip.{Slip}
 use Rattle.queue_model.specs.State.{IsIn}
 use Rattle.queue_model.specs.Table.{FitsQueue, most_entries}
 use Rattle.acts_core.specs.Asked.{most_callers}
-use Rattle.acts_core.specs.Calls.{CallOldest, CallLock, CallSteal, IsGot, IsLocked, HasStolen}
+use Rattle.acts_core.specs.Calls.{CallNext, CallOldest, CallLock, CallSteal, IsGot, IsLocked, HasStolen}
 use Rattle.acts_core.specs.Hands.{InHand}
 use Rattle.acts_core.specs.Load.{Load}
 use Rattle.acts_core.specs.Meaning.{Called}
@@ -90,6 +90,10 @@ oldest_held build a b r l load m =
 -- and in hand
 pub oldest_hand : (build : Build) (a b : Sight) (r l : ℕ) (load : Load) → Called build a b CallOldest (IsGot r l load) → InHand b r (Some load)
 oldest_hand build a b r l load m = pass_hands build a b CallOldest (IsGot r l load) r load load.count m refl (omega arith)
+
+-- the next entry of a consumer that was got is in hand
+pub next_hand : (build : Build) (a b : Sight) (c r l : ℕ) (load : Load) → Called build a b (CallNext c) (IsGot r l load) → InHand b r (Some load)
+next_hand build a b c r l load m = pass_hands build a b (CallNext c) (IsGot r l load) r load load.count m refl (omega arith)
 
 -- what was stolen is held
 pub stolen_held : (build : Build) (a b : Sight) (r : ℕ) (load : Load) → Called build a b (CallSteal r) (HasStolen load) → IsIn (known b) r (Locked b.caller)

@@ -1,2 +1,4 @@
 pub mod Kinds
 pub mod Parting
+pub mod Scavenging
+pub mod Walked

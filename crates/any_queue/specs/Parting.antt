@@ -8,7 +8,8 @@ use Rattle.queue_model.specs.Table.{most_entries}
 use Rattle.acts_core.specs.Asked.{most_callers}
 use Rattle.acts_core.specs.Load.{Load}
 use Rattle.acts_core.specs.Rest.{AreRests, Left}
-use Rattle.acts_core.specs.Sight.{Kind, Build, silent_lists, Sight, known}
+use Rattle.acts_core.specs.Sight.{Kind, Build, Sight, known}
+use Rattle.any_queue.specs.Kinds.{belled_lists}
 use Rattle.defs_read.specs.declared.defs.QueueKind.{QueueKind}
 use Rattle.defs_read.specs.declared.defs.QueueKind.TheVariants.{Standard, Priority, Sorted, LastValue}
 use Rattle.entry_table.specs.Plays.{not_in}
@@ -27,7 +28,7 @@ IsOfLists (LastValue key) = ⊥
 -- the rows of its opening, available and in their order, and nothing has happened. The pass has all consumers, and may
 -- reserve and draw what the entries leave.
 pub record IsFresh {C : Type 0} (load : C → Load) (lists rows consumers : ℕ) (start : List (Slip × C)) (build : Build) (s : Sight) : Type 0 where
-  pub build_is : build ≡ silent_lists rows
+  pub build_is : build ≡ belled_lists rows
   pub lists_is : s.opening.lists ≡ lists
   pub consumers_is : s.opening.consumers ≡ consumers
   pub opened : IsOpening s.opening

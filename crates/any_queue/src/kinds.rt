@@ -1,7 +1,6 @@
 //! A queue of any kind, its passes, and the calls that every queue offers.
-use crate::deletes::delete_listed;
 use acts_core::{Cargo, Freight, Locking, Next, Placed, Releasing, SharedQueue, Stealing};
-use cursor_core::Cursor;
+use cursor_core::PassCursors;
 use entry_table::{Entries, Pass};
 use queue_model::{Depth, Slip};
 
@@ -12,15 +11,32 @@ pub enum AnyQueue<C: Freight> {
     Listed(Entries<C>),
 }
 
-/// A pass of such a queue.
+/// A pass of a standard or a priority queue.
+#[derive(Drop)]
+pub struct ListedPass {
+    /// The pass of its table.
+    pub pass: Pass,
+    /// The cursors of its consumers.
+    pub cursors: PassCursors,
+}
+
+/// A pass of a queue of any kind.
 #[derive(Drop)]
 pub enum AnyPass {
     /// Of a standard or a priority queue.
-    Listed(Pass),
+    Listed(ListedPass),
 }
 
 impl<C: Cargo + Sync> SharedQueue<C> for AnyQueue<C> {
+    ghost use Rattle.std.specs.Prelude.{ℕ};
+    ghost use mathlib.Core.List.{Mem};
+    ghost use Rattle.acts_core.specs.Asked.{HasDequeued};
+    ghost use Rattle.acts_core.specs.Calls.{CallNext, CallDelete, IsDone};
+    ghost use Rattle.acts_core.specs.Meaning.{Called};
+    ghost use Rattle.acts_core.specs.Replies.{of_next};
     ghost use Rattle.any_queue.specs.Kinds.{build_in, sight_in, ServesAny, any_opens};
+    ghost use Rattle.any_queue.specs.Scavenging.{DeletesAny};
+    ghost use Rattle.any_queue.specs.Walked.{WalksAny};
 
     type Pass = AnyPass;
 
@@ -33,7 +49,7 @@ impl<C: Cargo + Sync> SharedQueue<C> for AnyQueue<C> {
     fn depth(&self, pass: &mut AnyPass) -> Depth {
         match self {
             AnyQueue::Listed(entries) => match pass {
-                AnyPass::Listed(pass) => entry_calls::depth(entries, pass),
+                AnyPass::Listed(listed) => listed.depth(entries),
             },
         }
     }
@@ -41,7 +57,7 @@ impl<C: Cargo + Sync> SharedQueue<C> for AnyQueue<C> {
     fn reserve(&self, pass: &mut AnyPass, size: u64) -> Depth {
         match self {
             AnyQueue::Listed(entries) => match pass {
-                AnyPass::Listed(pass) => entry_calls::reserve(entries, pass, size),
+                AnyPass::Listed(listed) => listed.reserve(entries, size),
             },
         }
     }
@@ -49,7 +65,7 @@ impl<C: Cargo + Sync> SharedQueue<C> for AnyQueue<C> {
     fn give_back(&self, pass: &mut AnyPass, size: u64) {
         match self {
             AnyQueue::Listed(entries) => match pass {
-                AnyPass::Listed(pass) => entry_calls::give_back(entries, pass, size),
+                AnyPass::Listed(listed) => listed.give_back(entries, size),
             },
         }
     }
@@ -57,18 +73,22 @@ impl<C: Cargo + Sync> SharedQueue<C> for AnyQueue<C> {
     fn put(&self, pass: &mut AnyPass, slip: Slip, cargo: C) -> Placed<C> {
         match self {
             AnyQueue::Listed(entries) => match pass {
-                AnyPass::Listed(pass) => entry_calls::enqueue(entries, pass, &slip, cargo),
+                AnyPass::Listed(listed) => listed.put(entries, &slip, cargo),
             },
         }
     }
 
-    fn next(&self, pass: &mut AnyPass, consumer: u32) -> Next<C> {
+    fn next(&self, pass: &mut AnyPass, consumer: u32) -> Next<C>
+        requires serves { ServesAny self.now pass.old }
+        requires consumer { Mem consumer (sight_in pass.old).consumers }
+        ensures serves { ServesAny self.now pass.new }
+        ensures called { (list : ℕ) × Called (build_in self.now) (sight_in pass.old)
+            (sight_in pass.new) (CallNext consumer) (of_next C.load list result) }
+        ensures walks { WalksAny pass.old pass.new consumer result }
+    {
         match self {
             AnyQueue::Listed(entries) => match pass {
-                AnyPass::Listed(pass) => {
-                    let mut cursor = Cursor::fresh(pass, consumer, entries.lists());
-                    cursor_core::next(entries, pass, &mut cursor)
-                }
+                AnyPass::Listed(listed) => listed.next(entries, consumer),
             },
         }
     }
@@ -76,7 +96,7 @@ impl<C: Cargo + Sync> SharedQueue<C> for AnyQueue<C> {
     fn oldest(&self, pass: &mut AnyPass) -> Next<C> {
         match self {
             AnyQueue::Listed(entries) => match pass {
-                AnyPass::Listed(pass) => cursor_core::oldest(entries, pass),
+                AnyPass::Listed(listed) => listed.oldest(entries),
             },
         }
     }
@@ -84,7 +104,7 @@ impl<C: Cargo + Sync> SharedQueue<C> for AnyQueue<C> {
     fn find(&self, pass: &mut AnyPass, id: u64) -> Option<u64> {
         match self {
             AnyQueue::Listed(entries) => match pass {
-                AnyPass::Listed(pass) => entry_calls::find(entries, pass, id),
+                AnyPass::Listed(listed) => listed.find(entries, id),
             },
         }
     }
@@ -92,7 +112,7 @@ impl<C: Cargo + Sync> SharedQueue<C> for AnyQueue<C> {
     fn lock(&self, pass: &mut AnyPass, row: u64) -> Locking<C> {
         match self {
             AnyQueue::Listed(entries) => match pass {
-                AnyPass::Listed(pass) => entry_calls::lock(entries, pass, row),
+                AnyPass::Listed(listed) => listed.lock(entries, row),
             },
         }
     }
@@ -100,7 +120,7 @@ impl<C: Cargo + Sync> SharedQueue<C> for AnyQueue<C> {
     fn unlock(&self, pass: &mut AnyPass, row: u64, cargo: C) {
         match self {
             AnyQueue::Listed(entries) => match pass {
-                AnyPass::Listed(pass) => entry_calls::unlock(entries, pass, row, cargo),
+                AnyPass::Listed(listed) => listed.unlock(entries, row, cargo),
             },
         }
     }
@@ -108,8 +128,8 @@ impl<C: Cargo + Sync> SharedQueue<C> for AnyQueue<C> {
     fn release(&self, pass: &mut AnyPass, row: u64, cargo: C) -> Releasing<C> {
         match self {
             AnyQueue::Listed(entries) => match pass {
-                AnyPass::Listed(pass) => {
-                    entry_calls::release(entries, pass, row, cargo);
+                AnyPass::Listed(listed) => {
+                    listed.release(entries, row, cargo);
                     Releasing::Released
                 }
             },
@@ -119,7 +139,7 @@ impl<C: Cargo + Sync> SharedQueue<C> for AnyQueue<C> {
     fn steal(&self, pass: &mut AnyPass, row: u64) -> Stealing<C> {
         match self {
             AnyQueue::Listed(entries) => match pass {
-                AnyPass::Listed(pass) => entry_calls::steal(entries, pass, row),
+                AnyPass::Listed(listed) => listed.steal(entries, row),
             },
         }
     }
@@ -127,15 +147,22 @@ impl<C: Cargo + Sync> SharedQueue<C> for AnyQueue<C> {
     fn dequeue(&self, pass: &mut AnyPass, row: u64) {
         match self {
             AnyQueue::Listed(entries) => match pass {
-                AnyPass::Listed(pass) => entry_calls::dequeue(entries, pass, row),
+                AnyPass::Listed(listed) => listed.dequeue(entries, row),
             },
         }
     }
 
-    fn delete(&self, pass: &mut AnyPass, row: u64) {
+    fn delete(&self, pass: &mut AnyPass, row: u64)
+        requires serves { ServesAny self.now pass.old }
+        requires dequeued { HasDequeued (sight_in pass.old).caller row (sight_in pass.old).seen }
+        ensures serves { ServesAny self.now pass.new }
+        ensures called { Called (build_in self.now) (sight_in pass.old) (sight_in pass.new)
+            (CallDelete row) IsDone }
+        ensures scavenges { DeletesAny pass.old pass.new row }
+    {
         match self {
             AnyQueue::Listed(entries) => match pass {
-                AnyPass::Listed(pass) => delete_listed(entries, pass, row),
+                AnyPass::Listed(listed) => listed.delete(entries, row),
             },
         }
     }

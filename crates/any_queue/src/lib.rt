@@ -1,12 +1,14 @@
 //! Queues of all kinds as one.
 #![tactic(auto)]
 
-mod deletes;
 mod kinds;
+mod listed;
 mod passes;
 
-pub use kinds::{AnyPass, AnyQueue};
+pub use kinds::{AnyPass, AnyQueue, ListedPass};
 
+#[cfg(test)]
+mod cursor_tests;
 #[cfg(test)]
 mod shared_tests;
 #[cfg(test)]

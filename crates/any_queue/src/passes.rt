@@ -1,5 +1,5 @@
 //! Queues that are made and closed, and their passes, which are split off and joined.
-ghost use Rattle.std.specs.Prelude.{◌≡◌, ◌<◌, ◌≤◌, IfOk, vec_len, map};
+ghost use Rattle.std.specs.Prelude.{ℕ, ◌≡◌, ◌<◌, ◌≤◌, IfOk, vec_len, map};
 ghost use Rattle.std.specs.List.{AllByRecursion};
 ghost use Rattle.acts_core.specs.Asked.{KeyFits};
 ghost use Rattle.acts_core.specs.Rest.{left_of};
@@ -8,12 +8,14 @@ ghost use Rattle.defs_read.specs.Slips.{lists_of};
 ghost use Rattle.entry_table.specs.Passes.{opening};
 ghost use Rattle.entry_table.specs.Sights.{sight, Serves};
 ghost use Rattle.entry_table.specs.Starting.{AllMayStart};
-ghost use Rattle.any_queue.specs.Kinds.{build_in, sight_in, ServesAny};
+ghost use Rattle.cursor_core.specs.Holding.{cursor_at, or_other, AreHanded};
+ghost use Rattle.any_queue.specs.Kinds.{build_in, sight_in, ServesListed, ServesAny};
 ghost use Rattle.any_queue.specs.Parting.{IsOfLists, IsFresh, MayPart, IsSplit, IsJoined, IsLast, IsClosed};
 
-use crate::kinds::{AnyPass, AnyQueue};
+use crate::kinds::{AnyPass, AnyQueue, ListedPass};
 use acts_core::{Freight, RestEntry};
 use byte_lists::NoMemory;
+use cursor_core::PassCursors;
 use defs_read::{QueueDef, QueueKind};
 use entry_table::{Entries, Pass};
 use queue_model::Slip;
@@ -56,7 +58,12 @@ impl<C: Freight> AnyQueue<C> {
             def.consumers.len() as u32,
             start,
         ) {
-            Ok((entries, pass)) => Ok((AnyQueue::Listed(entries), AnyPass::Listed(pass))),
+            Ok((entries, pass)) => {
+                let consumers = def.consumers.len() as u32;
+                let cursors = PassCursors::fresh(&pass, consumers, entries.lists());
+                let boss = ListedPass { pass, cursors };
+                Ok((AnyQueue::Listed(entries), AnyPass::Listed(boss)))
+            }
             Err(_) => Err(NoMemory),
         }
     }
@@ -106,37 +113,45 @@ impl<C: Freight> AnyQueue<C> {
     {
         match self {
             AnyQueue::Listed(entries) => match boss {
-                AnyPass::Listed(boss) => close_listed(entries, boss),
+                AnyPass::Listed(boss) => close_listed(entries, boss.pass),
             },
         }
     }
 }
 
-// A split of a standard or priority queue's pass.
+// A split of a standard or priority queue's pass: the cursors of the consumers go with them.
 fn split_listed<C: Freight>(
     entries: &Entries<C>,
-    boss: &mut Pass,
+    boss: &mut ListedPass,
     consumers: &[u32],
     allowance: u64,
-) -> Pass
-    requires serves { Serves entries.now boss.old }
-    requires may { MayPart (sight boss.old) consumers.now allowance }
-    ensures serves { Serves entries.now boss.new × Serves entries.now result }
-    ensures split { IsSplit (sight boss.old) (sight boss.new) (sight result) consumers.now
-        allowance }
+) -> ListedPass
+    requires serves { ServesListed entries.now boss.old }
+    requires may { MayPart (sight boss.old.pass) consumers.now allowance }
+    ensures serves { ServesListed entries.now boss.new × ServesListed entries.now result }
+    ensures split { IsSplit (sight boss.old.pass) (sight boss.new.pass) (sight result.pass)
+        consumers.now allowance }
+    ensures cursors { AreHanded consumers.now boss.old.cursors.slots boss.new.cursors.slots
+        result.cursors.slots }
 {
-    entries.split(boss, consumers, allowance)
+    let pass = entries.split(&mut boss.pass, consumers, allowance);
+    let cursors = boss.cursors.hand(consumers);
+    ListedPass { pass, cursors }
 }
 
-// Passes of a standard or priority queue as one.
-fn join_listed<C: Freight>(entries: &Entries<C>, into: &mut Pass, gone: Pass)
-    requires into { Serves entries.now into.old }
-    requires gone { Serves entries.now gone }
-    requires history { opening gone ≡ opening into.old }
-    ensures serves { Serves entries.now into.new }
-    ensures joined { IsJoined (sight into.old) (sight gone) (sight into.new) }
+// Passes of a standard or priority queue as one, which has the cursors of both.
+fn join_listed<C: Freight>(entries: &Entries<C>, into: &mut ListedPass, gone: ListedPass)
+    requires into { ServesListed entries.now into.old }
+    requires gone { ServesListed entries.now gone }
+    requires history { opening gone.pass ≡ opening into.old.pass }
+    ensures serves { ServesListed entries.now into.new }
+    ensures joined { IsJoined (sight into.old.pass) (sight gone.pass) (sight into.new.pass) }
+    ensures cursors { (c : ℕ) → cursor_at into.new.cursors.slots c
+        ≡ or_other (cursor_at gone.cursors.slots c) (cursor_at into.old.cursors.slots c) }
 {
-    entries.join(into, gone);
+    let ListedPass { pass, cursors } = gone;
+    entries.join(&mut into.pass, pass);
+    into.cursors.take_in(cursors);
 }
 
 // What is left of a standard or priority queue.

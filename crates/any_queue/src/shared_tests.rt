@@ -52,7 +52,7 @@ fn consumer(alloc: Global, number: u32) -> ConsumerDef {
 }
 
 /// An entry that both consumers want.
-fn wanted(id: u64) -> (Slip, Empty)
+pub(crate) fn wanted(id: u64) -> (Slip, Empty)
     ensures id { result.0.id ≡ id }
     ensures size { result.0.size ≡ 0 }
     ensures mask { result.0.mask ≡ 3 }
@@ -79,6 +79,7 @@ pub(crate) fn put_one(queue: &AnyQueue<Empty>, pass: &mut AnyPass, id: u64) -> P
     ensures serves { ServesAny queue.now pass.new }
     ensures allowed { (sight_in pass.new).allowance + 1 ≡ (sight_in pass.old).allowance }
     ensures opening { (sight_in pass.new).opening ≡ (sight_in pass.old).opening }
+    ensures consumers { (sight_in pass.new).consumers ≡ (sight_in pass.old).consumers }
 {
     let (slip, cargo) = wanted(id);
     put_in(queue, pass, slip, cargo)
@@ -100,7 +101,7 @@ pub(crate) fn put_all(queue: &AnyQueue<Empty>, pass: AnyPass, first: u64) -> Any
     pass
 }
 
-fn take_one(queue: &AnyQueue<Empty>, pass: &mut AnyPass, consumer: u32) -> Option<u64>
+pub(crate) fn take_one(queue: &AnyQueue<Empty>, pass: &mut AnyPass, consumer: u32) -> Option<u64>
     requires serves { ServesAny queue.now pass.old }
     requires consumer { Mem consumer (sight_in pass.old).consumers }
     ensures serves { ServesAny queue.now pass.new }

@@ -1,30 +1,19 @@
 -- a call over all lists
-use Rattle.std.proofs.Common.{◌≡◌, ◌≢◌, ℕ, true, zero, suc, ◌+◌, ◌-◌, ◌<◌, ◌≤◌, Option, Some, None, List, [], ◌∷◌, refl, sym, ap, ◌∙◌, subst, arith}
-use Rattle.std.specs.Prelude.{IfSome}
+use Rattle.std.proofs.Common.{◌≡◌, ℕ, suc, ◌+◌, [], ◌∷◌, ap, subst, arith}
 use Rattle.queue_model.specs.declared.deeds.Act.TheVariants.{Acq}
 use Rattle.queue_model.specs.declared.queues.Queue.{Queue}
 use Rattle.queue_model.specs.declared.rows.Row.{Row}
 use Rattle.queue_model.specs.declared.rows.RowState.TheVariants.{Available}
-use Rattle.queue_model.specs.History.{Legal}
-use Rattle.queue_model.specs.Sound.{IsOpening}
-use Rattle.acts_core.specs.Calls.{CallNext, CallOldest, IsGot, IsEmpty}
+use Rattle.acts_core.specs.Calls.{CallOldest, IsGot, IsEmpty}
 use Rattle.acts_core.specs.Lists.{Gets}
 use Rattle.acts_core.specs.Load.{Load}
 use Rattle.acts_core.specs.Meaning.{Called}
-use Rattle.acts_core.specs.Moments.{JustBefore}
-use Rattle.acts_core.specs.Owed.{is_free}
-use Rattle.acts_core.specs.Sight.{Sight, silent_lists}
-use Rattle.acts_core.specs.Walks.{Ask, FreeTo, Ready, Ended, Done, Stopped}
-use Rattle.acts_core.proofs.Answering.{next_empty, next_got, oldest_empty, oldest_got}
-use Rattle.acts_core.proofs.Coming.{from_pred}
-use Rattle.acts_core.proofs.Walking.{done_none, done_down, done_up, done_got}
+use Rattle.acts_core.specs.Sight.{Listed, Build, Sight}
+use Rattle.acts_core.specs.Walks.{Ask, Ready, Ended, Done}
+use Rattle.acts_core.proofs.Answering.{oldest_empty, oldest_got}
+use Rattle.acts_core.proofs.Walking.{done_up, done_got}
 use Rattle.queue_model.proofs.Prefixes.{prefix_trans}
-use Rattle.entry_table.specs.declared.entries.Entries.{Entries}
-use Rattle.entry_table.specs.declared.pass.Pass.{Pass}
-use Rattle.entry_table.specs.declared.view.Shape.{Shape}
-use Rattle.entry_table.specs.Passes.{IsPassOf, Kept, view, opening, seen}
-use Rattle.entry_table.specs.Sights.{sight, Serves}
-use Rattle.cursor_core.specs.Takes.{GotReady, GotFree}
+use Rattle.cursor_core.specs.Takes.{GotReady}
 
 -- what a later part of the call got, the call got
 gets_from : (old now new : Sight) (ask : Ask) (low high r l : ℕ) (load : Load) (Fits : Row → Type 0) → Done old now ask low high → Gets now.opening now.caller now.seen new.seen r l load Fits → Gets old.opening old.caller old.seen new.seen r l load Fits
@@ -35,27 +24,14 @@ gets_from old now new ask low high r l load Fits d g =
     (subst (λ (h : ℕ). Gets now.opening h old.seen new.seen r l load Fits) caller
     (record { moment = g.moment; before = record { later = prefix_trans old.seen now.seen g.moment d.steps.grows g.before.later; early = g.before.early }; hands = g.hands; list = g.list; fits = g.fits }))
 
--- next, from the highest list down
-pub next_answers : (rows c l r : ℕ) (load : Load) (old now new : Sight) → 0 < l → Done old now (FreeTo c) l old.opening.lists → GotFree now new c (l - 1) r load → (list : ℕ) × Called (silent_lists rows) old new (CallNext c) (IsGot r list load)
-next_answers rows c l r load old now new some d g =
-    let from : suc (l - 1) ≡ l = from_pred l some in
-    let d' : Done old now (FreeTo c) (suc (l - 1)) old.opening.lists = subst (λ (n : ℕ). Done old now (FreeTo c) n old.opening.lists) (sym from) d in
-    let s = done_got old now new (FreeTo c) (suc (l - 1)) old.opening.lists (l - 1) r (Acq r ∷ []) d' (d'.lower (l - 1) (omega arith)) g.reached in
-    (l - 1, next_got rows c (l - 1) r load old new s (gets_from old now new (FreeTo c) (suc (l - 1)) old.opening.lists r (l - 1) load (λ x. is_free c x ≡ true) d' g.gets))
-
-pub next_ends : (rows c l : ℕ) (old new : Sight) → l ≤ 0 → Done old new (FreeTo c) l old.opening.lists → (list : ℕ) × Called (silent_lists rows) old new (CallNext c) IsEmpty
-next_ends rows c l old new low d =
-    let e : l ≡ 0 = omega (arith, low) in
-    (0, next_empty rows c old new (subst (λ (n : ℕ). Done old new (FreeTo c) n old.opening.lists) e d))
-
 -- oldest, from the lowest list up
 pub more_done : (old now new : Sight) (ask : Ask) (l : ℕ) → Done old now ask 0 l → Ended now new ask l → Done old new ask 0 (l + 1)
 more_done old now new ask l d e = let one : suc l ≡ l + 1 = omega arith in subst (λ (n : ℕ). Done old new ask 0 n) one (done_up old now new ask 0 l (omega arith) d e)
 
-pub oldest_answers : (rows l r : ℕ) (load : Load) (old now new : Sight) → Done old now Ready 0 l → GotReady now new l r load → (list : ℕ) × Called (silent_lists rows) old new CallOldest (IsGot r list load)
-oldest_answers rows l r load old now new d g =
+pub oldest_answers : (build : Build) (l r : ℕ) (load : Load) (old now new : Sight) → build.kind ≡ Listed → Done old now Ready 0 l → GotReady now new l r load → (list : ℕ) × Called build old new CallOldest (IsGot r list load)
+oldest_answers build l r load old now new listed d g =
     let s = done_got old now new Ready 0 l l r (Acq r ∷ []) d (d.higher l (omega arith)) g.reached in
-    (l, oldest_got (silent_lists rows) l r load old new refl s (gets_from old now new Ready 0 l r l load (λ x. x.state ≡ Available) d g.gets))
+    (l, oldest_got build l r load old new listed s (gets_from old now new Ready 0 l r l load (λ x. x.state ≡ Available) d g.gets))
 
-pub oldest_ends : (rows l : ℕ) (old new : Sight) → l ≡ old.opening.lists → Done old new Ready 0 l → (list : ℕ) × Called (silent_lists rows) old new CallOldest IsEmpty
-oldest_ends rows l old new all d = (0, oldest_empty (silent_lists rows) old new refl (subst (λ (n : ℕ). Done old new Ready 0 n) all d))
+pub oldest_ends : (build : Build) (l : ℕ) (old new : Sight) → build.kind ≡ Listed → l ≡ old.opening.lists → Done old new Ready 0 l → (list : ℕ) × Called build old new CallOldest IsEmpty
+oldest_ends build l old new listed all d = (0, oldest_empty build old new listed (subst (λ (n : ℕ). Done old new Ready 0 n) all d))

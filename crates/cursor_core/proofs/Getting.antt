@@ -1,5 +1,5 @@
 -- a walk of one list acquires the row that it has come to
-use Rattle.std.proofs.Common.{◌≡◌, ℕ, true, Option, Some, List, [], ◌∷◌, ◌++◌, sym, ap, ◌∙◌, subst, append-nil}
+use Rattle.std.proofs.Common.{◌≡◌, ℕ, Option, Some, [], ◌∷◌, ◌++◌, sym, ap, ◌∙◌, subst, append-nil}
 use Rattle.queue_model.specs.declared.deeds.Act.TheVariants.{Acq}
 use Rattle.queue_model.specs.declared.queues.Queue.{Queue}
 use Rattle.queue_model.specs.declared.rows.Row.{Row}
@@ -9,12 +9,11 @@ use Rattle.queue_model.specs.State.{row_at}
 use Rattle.queue_model.proofs.Prefixes.{prefix_trans}
 use Rattle.acts_core.specs.Lists.{Gets}
 use Rattle.acts_core.specs.Load.{Load}
-use Rattle.acts_core.specs.Owed.{is_free}
 use Rattle.acts_core.specs.Sight.{Sight}
-use Rattle.acts_core.specs.Walks.{Ask, FreeTo, Ready, Facing, Faces}
+use Rattle.acts_core.specs.Walks.{Ask, Ready, Facing, Faces}
 use Rattle.acts_core.proofs.Coming.{facing, opening_of, caller_of}
 use Rattle.acts_core.proofs.Walking.{walk_got, list_later}
-use Rattle.cursor_core.specs.Takes.{Acquires, AcquiresFree, GotReady, GotFree}
+use Rattle.cursor_core.specs.Takes.{Acquires, GotReady}
 
 gets_row : (old now new : Sight) (ask : Ask) (l r : ℕ) (load : Load) (Fits : Row → Type 0) (k : Facing old now ask l r) (a : Acquires now new r load) → Fits a.hands.row → Gets old.opening old.caller old.seen new.seen r l load Fits
 gets_row old now new ask l r load Fits k a fits =
@@ -40,12 +39,4 @@ got_ready old now new l r load next f is a =
     record {
       reached = walk_got old now new Ready l r (Acq r ∷ []) a.added k a.steps a.rights a.heads;
       gets = gets_row old now new Ready l r load (λ x. x.state ≡ Available) k a a.ready;
-    }
-
-pub got_free : (old now new : Sight) (c l r : ℕ) (load : Load) (next : Option ℕ) → Faces old now (FreeTo c) l next → next ≡ Some r → AcquiresFree now new c r load → GotFree old new c l r load
-got_free old now new c l r load next f is a =
-    let k = facing old now (FreeTo c) l r next f is in
-    record {
-      reached = walk_got old now new (FreeTo c) l r (Acq r ∷ []) a.acquires.added k a.acquires.steps a.acquires.rights a.acquires.heads;
-      gets = gets_row old now new (FreeTo c) l r load (λ x. is_free c x ≡ true) k a.acquires a.free;
     }

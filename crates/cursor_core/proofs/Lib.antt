@@ -1,3 +1,17 @@
+pub mod Marks
+pub mod Carries
+pub mod Within
+pub mod Truths
+pub mod Passing
+pub mod Going
+pub mod Ringing
+pub mod Stopping
+pub mod Counting
+pub mod Listing
 pub mod Acquiring
+pub mod AtPass
 pub mod Getting
+pub mod Outlasting
+pub mod Slots
+pub mod Runs
 pub mod Calling

@@ -4,9 +4,10 @@ ghost use Rattle.std.specs.Int.{bit_at};
 ghost use Rattle.std.specs.Option.{option_map};
 ghost use Rattle.queue_model.specs.declared.rows.Row.{Row};
 ghost use Rattle.queue_model.specs.State.{row_at};
-ghost use Rattle.entry_table.specs.Passes.{IsPassOf, Kept, state};
+ghost use Rattle.entry_table.specs.Passes.{IsPassOf, Kept, opening, state};
 ghost use Rattle.entry_table.specs.Sights.{sight};
-ghost use Rattle.cursor_core.specs.Takes.{TakesReady, TakesFree};
+ghost use Rattle.cursor_core.specs.Goes.{KnowsPlace, TriesRow};
+ghost use Rattle.cursor_core.specs.Takes.{TakesReady};
 
 use acts_core::Freight;
 use entry_table::{Entries, Pass};
@@ -47,7 +48,8 @@ pub(crate) fn take_free<C: Freight>(
     requires table { IsPassOf entries.now pass.old }
     requires known { (x : Row) × (row_at (state pass.old) row ≡ Some x) }
     ensures kept { Kept pass.old pass.new }
-    ensures takes { TakesFree (sight pass.old) (sight pass.new) consumer row (option_map C.goods result) }
+    ensures tries { TriesRow (opening pass.old) (sight pass.old) (sight pass.new) consumer row
+        (option_map C.goods result) }
 {
     let word = DraftWord::Mask;
     let mask = entries.look(pass, WordName::Draft { row, word });
@@ -56,4 +58,15 @@ pub(crate) fn take_free<C: Freight>(
     } else {
         None
     }
+}
+
+/// The place of a row in its list.
+pub(crate) fn place_of<C: Freight>(entries: &Entries<C>, pass: &mut Pass, row: u64) -> u64
+    requires table { IsPassOf entries.now pass.old }
+    requires known { (x : Row) × (row_at (state pass.old) row ≡ Some x) }
+    ensures kept { Kept pass.old pass.new }
+    ensures knows { KnowsPlace (opening pass.old) (sight pass.old) (sight pass.new) row result }
+{
+    let word = DraftWord::Place;
+    entries.look(pass, WordName::Draft { row, word })
 }

@@ -26,7 +26,7 @@ use Rattle.any_queue.specs.declared.kinds.AnyQueue.{AnyQueue}
 use Rattle.any_queue.specs.Kinds.{build_in, sight_in, ServesAny}
 use Rattle.any_queue.specs.Parting.{IsFresh, IsOfLists}
 use Rattle.phase_text.specs.declared.logs.Rest.{Rest}
-use Rattle.account_core.specs.Carry.{Opens, kind_of, unnumbered}
+use Rattle.account_core.specs.Carry.{Opens, kind_of, unnumbered, uses_bells}
 use Rattle.account_core.specs.Phases.{AllOpen}
 use Rattle.account_core.specs.Texts.{queue_names}
 use Rattle.phase_queues.specs.Left.{Remains, AllMayStay, AreCarried, MayStay, left_in, many_left, row_left, rows_left}
@@ -95,7 +95,7 @@ is_opened def es start puts queue boss kind few c serves f =
       build = f.build_is;
       opens = record {
         kind = ap (λ (b : Build). b.kind) f.build_is ∙ of_kind def.kind kind;
-        rings = ap (λ (b : Build). b.bells) f.build_is;
+        rings = ap (λ (b : Build). b.bells) f.build_is ∙ sym (ap (λ (b : Build). uses_bells b.kind) f.build_is);
         lists = f.lists_is;
         consumers = f.consumers_is;
         kept = start_rows es start (sight_in boss).opening.rows c f.started;

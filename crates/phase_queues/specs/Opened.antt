@@ -1,14 +1,14 @@
 -- the queues of a phase, as they are opened
 use Rattle.std.specs.Prelude.{◌≡◌, ℕ, ◌+◌, ◌≤◌, max, Some, List, [], ◌∷◌, length, slice_get, slice_index, map, vec_capacity}
 use Rattle.queue_model.specs.Table.{most_entries}
-use Rattle.acts_core.specs.Sight.{Sight, plan_of, silent_lists}
+use Rattle.acts_core.specs.Sight.{Sight, plan_of}
 use Rattle.acts_core.specs.declared.cargoes.RestEntry.{RestEntry}
 use Rattle.txn_core.specs.declared.parcels.Parcel.{Parcel}
 use Rattle.defs_read.specs.Defined.{Defined}
 use Rattle.entry_table.specs.Rule.{below}
 use Rattle.any_queue.specs.declared.kinds.AnyPass.{AnyPass}
 use Rattle.any_queue.specs.declared.kinds.AnyQueue.{AnyQueue}
-use Rattle.any_queue.specs.Kinds.{build_in, sight_in, ServesAny}
+use Rattle.any_queue.specs.Kinds.{belled_lists, build_in, sight_in, ServesAny}
 use Rattle.phase_text.specs.declared.logs.Rest.{Rest}
 use Rattle.account_core.specs.Carry.{Opens}
 use Rattle.account_core.specs.Played.{Played}
@@ -51,7 +51,7 @@ pub record IsNewBoss (def : Defined) (puts : ℕ) (s : Sight) : Type 0 where
 pub record IsOpened (def : Defined) (entries : List (RestEntry Parcel)) (puts : ℕ)
     (queue : AnyQueue Parcel) (boss : AnyPass) : Type 0 where
   pub serves : ServesAny queue boss
-  pub build : build_in queue ≡ silent_lists (rows_for (length entries) puts)
+  pub build : build_in queue ≡ belled_lists (rows_for (length entries) puts)
   pub opens : Opens def (map row_left entries) (played queue boss).plan
   pub new : IsNewBoss def puts (sight_in boss)
 
@@ -72,7 +72,7 @@ pub record AreOpened (defs : List Defined) (lefts : List Remains) (puts : List �
   pub passes : length bosses ≡ length defs
   pub serves : AllServed queues bosses
   pub builds : (q : ℕ) (queue : AnyQueue Parcel) → slice_get queues q ≡ Some queue
-      → build_in queue ≡ silent_lists (rows_for (many_left q lefts) (slice_index puts q))
+      → build_in queue ≡ belled_lists (rows_for (many_left q lefts) (slice_index puts q))
   pub new : (q : ℕ) (def : Defined) (boss : AnyPass)
       → slice_get defs q ≡ Some def → slice_get bosses q ≡ Some boss
       → IsNewBoss def (slice_index puts q) (sight_in boss)

@@ -1,9 +1,15 @@
 -- what the steps of a pass were on, one part after the other
-use Rattle.std.proofs.Common.{◌≡◌, ◌≢◌, ℕ, zero, suc, ◌+◌, Bool, true, false, cond, Option, Some, None, List, [], ◌∷◌, ◌++◌, length, filter, map, refl, sym, ap, ◌∙◌, eq-eqb, ne_eqb, length-append}
+use Rattle.std.proofs.Common.{◌≡◌, ◌≢◌, ℕ, zero, suc, ◌+◌, Bool, true, false, cond, Option, Some, None, List, [], ◌∷◌, ◌++◌, length, filter, find, map, refl, sym, ap, ◌∙◌, eq-eqb, ne_eqb, length-append}
 use Rattle.std.proofs.lemmas.List.Elements.{filter-append}
 use Rattle.queue_model.specs.declared.steps.Node.{Node}
 use Rattle.queue_model.specs.declared.steps.Node.TheVariants as nodes
+use Rattle.queue_model.specs.declared.steps.Step.{Step}
+use Rattle.queue_model.specs.declared.steps.Step.TheVariants as steps
 use Rattle.queue_model.specs.declared.steps.Tried.{Tried}
+use Rattle.queue_model.specs.declared.steps.WordName.TheVariants as wordnames
+use Rattle.queue_model.proofs.KeyedLemmas.{find_none-cons}
+use Rattle.acts_core.specs.Sight.{on_head}
+use Rattle.acts_core.specs.Steps.{NoHead}
 use Rattle.acts_core.specs.Walks.{node_at}
 use Rattle.scavenge_core.specs.Shown.{same_node, on_link_of, on_link, on_state, looks, hops, later_or, link_after, on_count, counted}
 
@@ -67,3 +73,24 @@ other_stop l (suc a) (suc b) ne = ne_eqb b a (λ e. ne (ap (λ (n : ℕ). suc n)
 pub other_node : (l w r : ℕ) → w ≢ suc r → same_node (nodes.Row r) (node_at l w) ≡ false
 other_node l zero r ne = refl
 other_node l (suc a) r ne = ne_eqb r a (λ e. ne (ap (λ (n : ℕ). suc n) (sym e)))
+
+-- Head links
+
+-- one step that is not on the head link of a list
+pub head_off : (m : ℕ) (t : Tried) → on_head m t.step ≡ false → NoHead m (t ∷ [])
+head_off m t off = find_none-cons (λ (x : Tried). on_head m x.step) t [] off refl
+
+-- a load of a link of one list is not on the head link of another
+pub head_load : (l w m : ℕ) → m ≢ l → on_head m (steps.Load (wordnames.Link (node_at l w))) ≡ false
+head_load l zero m away = ne_eqb l m (λ e. away (sym e))
+head_load l (suc r) m away = refl
+
+-- nor is an exchange of it
+pub head_unlink : (l w r b m : ℕ) → m ≢ l → on_head m (steps.Unlink (node_at l w) r b) ≡ false
+head_unlink l zero r b m away = ne_eqb l m (λ e. away (sym e))
+head_unlink l (suc s) r b m away = refl
+
+-- a load of the link behind the head is on it
+pub head_here : (l w : ℕ) → w ≡ 0 → on_head l (steps.Load (wordnames.Link (node_at l w))) ≡ true
+head_here l zero head = eq-eqb l l refl
+head_here l (suc r) head = absurd (cc)

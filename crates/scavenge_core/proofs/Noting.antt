@@ -9,7 +9,11 @@ use Rattle.queue_model.specs.declared.steps.Tried.{Tried}
 use Rattle.queue_model.specs.declared.steps.WordName.TheVariants as wordnames
 use Rattle.queue_model.specs.State.{row_at, list_at, place_at}
 use Rattle.queue_model.proofs.SoundSteps.{list_found, row_fits}
+use Rattle.queue_model.proofs.Prefixes.{prefix_trans}
+use Rattle.acts_core.specs.Sight.{on_head}
 use Rattle.acts_core.specs.Walks.{node_at, IsOfList, IsStop}
+use Rattle.acts_core.proofs.Stepping.{no_head-append}
+use Rattle.acts_core.proofs.Walking.{find-behind}
 use Rattle.entry_table.specs.declared.entries.Entries.{Entries}
 use Rattle.entry_table.specs.declared.pass.Pass.{Pass}
 use Rattle.entry_table.specs.declared.view.Shape.{Shape}
@@ -17,7 +21,7 @@ use Rattle.entry_table.specs.Passes.{IsPassOf, Kept, Did, KeepsRights, seen, sho
 use Rattle.entry_table.specs.Plays.{Shows}
 use Rattle.entry_table.specs.Views.{entry}
 use Rattle.entry_table.proofs.Later.{known_later}
-use Rattle.scavenge_core.specs.Skips.{Tries, Early, EndShown, StepsOver}
+use Rattle.scavenge_core.specs.Skips.{Tries, Early, Begun, EndShown, StepsOver}
 use Rattle.scavenge_core.specs.Scavenges.{LooksUp, Noted, OnDeleted, Scavenged}
 use Rattle.scavenge_core.proofs.Lasting.{tries_trans, tried, row_on, place_on, stop_on, reach_on}
 use Rattle.scavenge_core.proofs.Logs.{looks-append, hops-append, countless-append, link_last, link_neither}
@@ -123,14 +127,28 @@ module _ (old mid new : Pass) (l w : ℕ) (stop : IsStop (state old) l w) (looke
       let rw = reach_on old mid before looked.3 l w stop in
       link_neither (node_at l v) before added refl (early v (stop_on old mid before looked.3 l v known) (omega (arith, rv, rw, less)))
 
+  begun_before : (added : List Tried) → Begun mid new l w added → Begun old new l w (before ++ added)
+  begun_before added b = record {
+    others = λ m away. no_head-append m before added refl (b.others m away);
+    starts = λ head.
+        let s = b.starts head in (
+          s.0,
+          record { later = prefix_trans (seen old) (seen mid) s.0 looked.3.steps.grows s.1.later; early = s.1.early },
+          (s.2.0, find-behind (λ (x : Tried). on_head l x.step) before added refl ∙ s.2.1, s.2.2),
+        );
+  }
+
   pub steps_over_on : (result : Option ℕ) → StepsOver mid new l w result → StepsOver old new l w result
-  steps_over_on None t = record {
+  steps_over_on None t = let few = t.looks in let few_hops = t.hops in record {
     added = before ++ t.added;
     tries = tries_trans old mid new before t.added looked.3 t.tries;
     gone = t.gone;
     shown = end_on t.shown;
     early = early_before t.added t.early;
+    begun = begun_before t.added t.begun;
     countless = countless-append before t.added refl t.countless;
+    looks = omega (arith, looks-append before t.added, few);
+    hops = omega (arith, hops-append before t.added, few_hops);
   }
     where
       end_on : EndShown new t.added l w → EndShown new (before ++ t.added) l w
@@ -142,6 +160,7 @@ module _ (old mid new : Pass) (l w : ℕ) (stop : IsStop (state old) l w) (looke
     names = record { there = t.names.there; behind = t.names.behind; gone = t.names.gone; link = link_last (node_at l w) before t.added (suc r) t.names.link };
     live = t.live;
     early = early_before t.added t.early;
+    begun = begun_before t.added t.begun;
     countless = countless-append before t.added refl t.countless;
     looks = omega (arith, looks-append before t.added, few);
     hops = omega (arith, hops-append before t.added, few_hops);

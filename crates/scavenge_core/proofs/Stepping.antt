@@ -1,5 +1,5 @@
 -- steps over runs of deleted rows
-use Rattle.std.proofs.Common.{◌≡◌, ◌≢◌, ◌⊎◌, inl, inr, ℕ, suc, ◌<◌, ◌≤◌, true, false, Option, Some, None, List, [], ◌∷◌, ◌++◌, refl, sym, ap, ◌∙◌, subst, ⊎_elim, arith}
+use Rattle.std.proofs.Common.{◌≡◌, ◌≢◌, ◌⊎◌, inl, inr, ℕ, zero, suc, ◌+◌, ◌*◌, ◌<◌, ◌≤◌, true, false, Option, Some, None, List, [], ◌∷◌, ◌++◌, length, refl, sym, ap, ◌∙◌, subst, ⊎_elim, arith}
 use Rattle.std.proofs.lemmas.Bool.{cases_order}
 use Rattle.queue_model.specs.declared.deeds.Deed.{Deed}
 use Rattle.queue_model.specs.declared.queues.Queue.{Queue}
@@ -12,13 +12,20 @@ use Rattle.queue_model.specs.declared.steps.Tried.{Tried}
 use Rattle.queue_model.specs.declared.steps.WordName.TheVariants as wordnames
 use Rattle.queue_model.specs.History.{after}
 use Rattle.queue_model.specs.Packing.{pack_state}
-use Rattle.queue_model.specs.State.{row_at, list_at, place_at, IsIn}
+use Rattle.queue_model.specs.State.{is_row, row_at, rows_of, list_at, place_at, IsIn}
+use Rattle.queue_model.proofs.KeyedLemmas.{find-here, find-append}
 use Rattle.queue_model.proofs.Orders.{place_same}
+use Rattle.queue_model.proofs.Prefixes.{prefix_self, prefix_trans}
 use Rattle.queue_model.proofs.RowFacts.{row_number}
 use Rattle.queue_model.proofs.SoundSteps.{list_found, row_fits}
+use Rattle.queue_model.proofs.Stable.{found_in_list}
+use Rattle.link_core.proofs.Fewer.{position_in}
 use Rattle.link_core.proofs.Packing.{pack_same}
+use Rattle.acts_core.specs.Sight.{on_head}
+use Rattle.acts_core.specs.Steps.{NoHead}
 use Rattle.acts_core.specs.Walks.{node_at, reach, IsOfList, IsStop, AreDeleted, FollowsTo}
 use Rattle.acts_core.proofs.Coming.{left}
+use Rattle.acts_core.proofs.Stepping.{no_head-append}
 use Rattle.entry_table.specs.declared.entries.Entries.{Entries}
 use Rattle.entry_table.specs.declared.pass.Pass.{Pass}
 use Rattle.entry_table.specs.declared.view.Shape.{Shape}
@@ -31,10 +38,10 @@ use Rattle.entry_table.specs.Views.{entry}
 use Rattle.entry_table.proofs.Following.{place_low, stop_later}
 use Rattle.entry_table.proofs.Sighting.{stepped}
 use Rattle.entry_table.proofs.Skipped.{stop_known}
-use Rattle.scavenge_core.specs.Shown.{link_after}
-use Rattle.scavenge_core.specs.Skips.{Tries, Early, Names, Ahead, Reaches, Ends, Comes, Turned, MayPass, Passes}
+use Rattle.scavenge_core.specs.Shown.{looks, hops, link_after}
+use Rattle.scavenge_core.specs.Skips.{Tries, Early, Begun, Names, Ahead, Reaches, Ends, Comes, Turned, MayPass, Passes}
 use Rattle.scavenge_core.proofs.Lasting.{tries_trans, tried, state_is, row_on, place_on, stop_on, reach_on, deleted_on, gone_on}
-use Rattle.scavenge_core.proofs.Logs.{looks-append, hops-append, countless-append, link_last, link_first, node_self, link_one, link_other, link_neither, other_stop, other_node}
+use Rattle.scavenge_core.proofs.Logs.{looks-append, hops-append, countless-append, link_last, link_first, node_self, link_one, link_other, link_neither, other_stop, other_node, head_off, head_load, head_unlink, head_here}
 
 -- the step of a load of the link behind a stop
 abbrev pub hop : ℕ → ℕ → Step
@@ -63,6 +70,46 @@ early_here old l w v less same = let e : reach (state old) v ≡ reach (state ol
 hop_off : (l v w n : ℕ) (seen : List Deed) → v ≢ w → link_after (node_at l v) (entry (hop l w) n n seen ∷ []) ≡ None
 hop_off l v w n seen ne = link_other (node_at l v) (entry (hop l w) n n seen) (other_stop l v w ne)
 
+-- Rows of a list
+
+-- a row of a list has a place among the list's rows
+pub row_within : (q : Queue) (l r : ℕ) → IsOfList q l r → place_at q r < length (rows_of q l)
+row_within q l r there =
+    let list : list_at q r ≡ l = list_found q r there.0 there.1 ∙ there.2 in
+    subst (λ (m : ℕ). place_at q r < length (rows_of q m)) list
+    (position_in (is_row r) (rows_of q (list_at q r)) there.0 (found_in_list q r there.0 there.1))
+
+-- and so has a stop
+pub stop_within : (q : Queue) (l w : ℕ) → IsStop q l w → reach q w ≤ length (rows_of q l)
+stop_within q l zero stop = omega arith
+stop_within q l (suc r) stop = let low = row_within q l r stop in omega (arith, low)
+
+-- The first step on a head link
+
+-- a load of the link behind the stop, as the first step
+begun_here : (old new : Pass) (l w n : ℕ) → Tries old new (entry (hop l w) n n (seen new) ∷ []) → Begun old new l w (entry (hop l w) n n (seen new) ∷ [])
+begun_here old new l w n t =
+    let e : Tried = entry (hop l w) n n (seen new) in record {
+      others = λ m away. head_off m e (head_load l w m away);
+      starts = λ head. (
+        seen new,
+        record { later = t.steps.grows; early = prefix_self (seen new) },
+        (e, find-here (λ (x : Tried). on_head l x.step) e [] (head_here l w head), refl),
+      );
+    }
+
+-- further steps, none on the head link of another list
+pub begun_on : (old mid new : Pass) (l w : ℕ) (us vs : List Tried) → Tries mid new vs → ((m : ℕ) → m ≢ l → NoHead m vs) → Begun old mid l w us → Begun old new l w (us ++ vs)
+begun_on old mid new l w us vs t none b = record {
+  others = λ m away. no_head-append m us vs (b.others m away) (none m away);
+  starts = λ head.
+      let s = b.starts head in (
+        s.0,
+        record { later = s.1.later; early = prefix_trans s.0 (seen mid) (seen new) s.1.early t.steps.grows },
+        (s.2.0, find-append (λ (x : Tried). on_head l x.step) us vs s.2.0 s.2.1, s.2.2),
+      );
+}
+
 -- The first load
 
 pub first_named : (old new : Pass) (l w r : ℕ) → Kept old new → Did old new [] → FollowsTo (sight old) (sight new) l w (Some r) → Watching (view old) (view new) (node_at l w) (hop l w) (suc r) → Ahead old new l w r
@@ -76,21 +123,26 @@ first_named old new l w r k d f watch =
       names = record { there = at.0; behind = at.1; gone = at.2; link = link_one (node_at l w) e (node_self (node_at l w)) };
       watched = watch.watches.watched;
       early = λ v known less. hop_off l v w (suc r) (seen new) (early_here old l w v less);
+      begun = begun_here old new l w (suc r) t;
       countless = refl;
       looks = omega (arith, behind);
       hops = omega (arith, behind);
     }
 
-pub first_none : (old new : Pass) (l w : ℕ) → Kept old new → Did old new [] → FollowsTo (sight old) (sight new) l w None → Watching (view old) (view new) (node_at l w) (hop l w) 0 → Ends old new l w
-first_none old new l w k d f watch =
+pub first_none : (old new : Pass) (l w : ℕ) → IsStop (state new) l w → Kept old new → Did old new [] → FollowsTo (sight old) (sight new) l w None → Watching (view old) (view new) (node_at l w) (hop l w) 0 → Ends old new l w
+first_none old new l w stop k d f watch =
     let e : Tried = entry (hop l w) 0 0 (seen new) in
+    let within = stop_within (state new) l w stop in
     let t = hopped old new l w 0 None k d watch.watches.shown f in record {
       added = e ∷ [];
       tries = t;
       gone = subst (λ (q : Queue). (m : ℕ) → AreDeleted q l (reach q w) m) (state_is old new (e ∷ []) t) f.1;
       shown = inl (link_one (node_at l w) e (node_self (node_at l w)));
       early = λ v known less. hop_off l v w 0 (seen new) (early_here old l w v less);
+      begun = begun_here old new l w 0 t;
       countless = refl;
+      looks = omega (arith, within);
+      hops = omega (arith, within);
     }
 
 -- A look at the state of the row
@@ -125,6 +177,7 @@ reached old now new l w r n stop a k rights d shows e other =
       tries = tries_trans old now new a.added vs a.tries t;
       names = names_on now new a.added vs l w r stop t refl a.names;
       early = λ v known less. link_neither (node_at l v) a.added vs (a.early v known less) refl;
+      begun = begun_on old now new l w a.added vs t (λ m away. refl) a.begun;
       countless = countless-append a.added vs a.countless refl;
       live = λ x found gone. other (state_shown (state new) r n x shows found ∙ ap pack_state gone);
       looks = omega (arith, looks-append a.added vs, place, start, few);
@@ -192,6 +245,11 @@ module _ (old now mid new : Pass) (l w r n m : ℕ) (result : Option ℕ) (begin
       omega (arith, less, own, place, start, behind) in
       link_neither (node_at l v) (a.added ++ one) two (link_neither (node_at l v) a.added one (a.early v known less) refl) (hop_off l v (suc r) m (seen new) other)
 
+  begun_new : Begun old new l w ((a.added ++ one) ++ two)
+  begun_new =
+      begun_on old mid new l w (a.added ++ one) two second (λ k away. head_off k (entry (hop l (suc r)) m m (seen new)) (head_load l (suc r) k away))
+      (begun_on old now mid l w a.added one first (λ k away. refl) a.begun)
+
   pub turned : Turned old new l w r
   turned =
       let p1 = place_on now mid one first r a.names.there.0 a.names.there.1 in
@@ -202,6 +260,7 @@ module _ (old now mid new : Pass) (l w r n m : ℕ) (result : Option ℕ) (begin
         added = (a.added ++ one) ++ two;
         tries = tries_new;
         early = early_new;
+        begun = begun_new;
         countless = countless-append (a.added ++ one) two (countless-append a.added one a.countless refl) refl;
         looks = omega (arith, looks-append (a.added ++ one) two, looks-append a.added one, p1, p2, s1, s2, few);
         hops = omega (arith, hops-append (a.added ++ one) two, hops-append a.added one, p1, p2, s1, s2, few_hops);
@@ -209,13 +268,18 @@ module _ (old now mid new : Pass) (l w r n m : ℕ) (result : Option ℕ) (begin
 
   -- no row stands behind it
   pub ended : m ≡ 0 → result ≡ None → Ends old new l w
+  unfolding turned
   ended empty none =
       let behind : (k : ℕ) → AreDeleted (state new) l (reach (state new) (suc r)) k =
       subst (λ (q : Queue). (k : ℕ) → AreDeleted q l (reach q (suc r)) k) (state_is mid new two second) (subst (λ (o : Option ℕ). FollowsTo (sight mid) (sight new) l (suc r) o) none f).1 in
-      let last : link_after (nodes.Row r) two ≡ Some m = link_one (nodes.Row r) (entry (hop l (suc r)) m m (seen new)) (node_self (nodes.Row r)) in record {
+      let last : link_after (nodes.Row r) two ≡ Some m = link_one (nodes.Row r) (entry (hop l (suc r)) m m (seen new)) (node_self (nodes.Row r)) in
+      let within = row_within (state new) l r row_new in
+      let few : looks ((a.added ++ one) ++ two) + reach (state new) w ≤ suc (place_at (state new) r) = turned.looks in
+      let few_hops : hops ((a.added ++ one) ++ two) + 3 * reach (state new) w ≤ 3 * place_at (state new) r + 2 = turned.hops in record {
         added = (a.added ++ one) ++ two;
         tries = tries_new;
         early = early_new;
+        begun = begun_new;
         countless = countless-append (a.added ++ one) two (countless-append a.added one a.countless refl) refl;
         gone = λ k x y found list low high. ⊎_elim
             (λ (here : place_at (state new) x ≡ place_at (state new) r).
@@ -228,6 +292,8 @@ module _ (old now mid new : Pass) (l w r n m : ℕ) (result : Option ℕ) (begin
             (λ (later : place_at (state new) r < place_at (state new) x). behind k x y found list later high) rest)
             (cases_order (place_at (state new) x) (place_at (state new) r));
         shown = inr (r, gone_new, names_new.link, link_last (nodes.Row r) (a.added ++ one) two 0 (last ∙ ap (λ (z : ℕ). Some z) empty));
+        looks = omega (arith, few, within);
+        hops = omega (arith, few_hops, within);
       }
 
   -- row b stands behind it
@@ -278,6 +344,7 @@ goes_on old mid new l w r u stop there t p =
       names = record { there = p.names.there; behind = p.names.behind; gone = p.names.gone; link = link_last (node_at l w) t.added p.added (suc u) p.names.link };
       watched = p.watched;
       early = λ v known less. link_neither (node_at l v) t.added p.added (t.early v known less) (p.alone v (early_here old l w v less));
+      begun = begun_on old mid new l w t.added p.added p.tries p.others t.begun;
       countless = countless-append t.added p.added t.countless p.countless;
       looks = omega (arith, looks-append t.added p.added, place, start, few, none, later);
       hops = omega (arith, hops-append t.added p.added, place, start, few_hops, two, later);
@@ -305,6 +372,7 @@ passed old new l w r b may k rights d u =
       later = omega (arith, pr, pb, later);
       watched = u.watched;
       alone = λ v ne. link_other (node_at l v) e (other_stop l v w ne);
+      others = λ m away. head_off m e (head_unlink l w r b m away);
       countless = refl;
       looks = refl;
       hops = omega arith;
@@ -380,6 +448,7 @@ module _ (old mid new : Pass) (l w r b : ℕ) (result : Option ℕ) (may : MayPa
         later = omega (arith, p1, p2, far, on);
         watched = watch.watches.watched ∙ ap (λ (o : Option ℕ). watch_of (node_at l w) (link_word o)) some;
         alone = λ v ne. link_neither (node_at l v) miss again (link_other (node_at l v) (entry (steps.Unlink (node_at l w) r b) u.0 u.0 (seen mid)) (other_stop l v w ne)) (hop_off l v w (link_word result) (seen new) ne);
+        others = λ m away. no_head-append m miss again (head_off m (entry (steps.Unlink (node_at l w) r b) u.0 u.0 (seen mid)) (head_unlink l w r b m away)) (head_off m (entry (hop l w) (link_word result) (link_word result) (seen new)) (head_load l w m away));
         countless = refl;
         looks = refl;
         hops = omega arith;
@@ -392,9 +461,9 @@ pub stop_after : (old new : Pass) (l w : ℕ) → Kept old new → Did old new [
 stop_after old new l w k d stop = subst (λ (o : Queue). IsStop (after o (seen new)) l w) (sym k.opening) (stop_later (opening old) (seen old) (seen new) l w d.prefix stop)
 
 -- what the first load came to
-pub comes_first : (old new : Pass) (l w : ℕ) (result : Option ℕ) → Kept old new → Did old new [] → FollowsTo (sight old) (sight new) l w result → Watching (view old) (view new) (node_at l w) (hop l w) (link_word result) → Comes old new l w result
-comes_first old new l w None k d f watch = first_none old new l w k d f watch
-comes_first old new l w (Some r) k d f watch = first_named old new l w r k d f watch
+pub comes_first : (old new : Pass) (l w : ℕ) (result : Option ℕ) → IsStop (state new) l w → Kept old new → Did old new [] → FollowsTo (sight old) (sight new) l w result → Watching (view old) (view new) (node_at l w) (hop l w) (link_word result) → Comes old new l w result
+comes_first old new l w None stop k d f watch = first_none old new l w stop k d f watch
+comes_first old new l w (Some r) stop k d f watch = first_named old new l w r k d f watch
 
 pub ahead_of : (old now : Pass) (l w r : ℕ) (next : Option ℕ) → Comes old now l w next → next ≡ Some r → Ahead old now l w r
 ahead_of old now l w r next comes is = subst (λ (o : Option ℕ). Comes old now l w o) is comes

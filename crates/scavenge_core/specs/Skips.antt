@@ -1,15 +1,18 @@
 -- steps over runs of deleted rows
-use Rattle.std.specs.Prelude.{◌≡◌, ◌≢◌, ◌⊎◌, ℕ, suc, ◌+◌, ◌*◌, ◌<◌, ◌≤◌, Option, Some, None, List, []}
+use Rattle.std.specs.Prelude.{◌≡◌, ◌≢◌, ◌⊎◌, ℕ, suc, ◌+◌, ◌*◌, ◌<◌, ◌≤◌, Option, Some, None, List, [], length}
+use Rattle.queue_model.specs.declared.deeds.Deed.{Deed}
 use Rattle.queue_model.specs.declared.rows.Row.{Row}
 use Rattle.queue_model.specs.declared.rows.RowState.TheVariants.{Deleted}
 use Rattle.queue_model.specs.declared.steps.Node.{Node}
 use Rattle.queue_model.specs.declared.steps.Node.TheVariants as nodes
 use Rattle.queue_model.specs.declared.steps.Tried.{Tried}
-use Rattle.queue_model.specs.State.{row_at, place_at, IsIn}
-use Rattle.acts_core.specs.Steps.{Stepped, SameRights}
+use Rattle.queue_model.specs.State.{row_at, rows_of, place_at, IsIn}
+use Rattle.acts_core.specs.Moments.{Between}
+use Rattle.acts_core.specs.Sight.{Showed, Starts}
+use Rattle.acts_core.specs.Steps.{Stepped, SameRights, NoHead}
 use Rattle.acts_core.specs.Walks.{node_at, reach, IsOfList, IsStop, AreDeleted}
 use Rattle.entry_table.specs.declared.pass.Pass.{Pass}
-use Rattle.entry_table.specs.Passes.{Kept, state}
+use Rattle.entry_table.specs.Passes.{Kept, seen, state}
 use Rattle.entry_table.specs.Sights.{sight}
 use Rattle.entry_table.specs.Skips.{watched, watch_of, Unlinkable}
 use Rattle.scavenge_core.specs.Shown.{looks, hops, link_after, counted}
@@ -29,6 +32,12 @@ stop_at (nodes.Row r) = suc r
 abbrev pub Early : Pass → ℕ → ℕ → List Tried → Type 0
 Early old l w added = (v : ℕ) → IsStop (state old) l v → reach (state old) v < reach (state old) w → link_after (node_at l v) added ≡ None
 
+-- None of the steps is on the head link of another list than l. Where stop w is the head of list l, the first step on its
+-- link was when so much was seen as at some moment in between.
+pub record Begun (old new : Pass) (l w : ℕ) (added : List Tried) : Type 0 where
+  pub others : (m : ℕ) → m ≢ l → NoHead m added
+  pub starts : w ≡ 0 → (b : List Deed) × Between (seen old) (seen new) b × Starts (Showed added) l b
+
 -- The link behind stop w of list l was last shown to name row r. The rows of the list from the stop on, before row r,
 -- are deleted.
 pub record Names (new : Pass) (added : List Tried) (l w r : ℕ) : Type 0 where
@@ -44,6 +53,7 @@ pub record Ahead (old now : Pass) (l w r : ℕ) : Type 0 where
   pub names : Names now added l w r
   pub watched : watched now ≡ watch_of (node_at l w) (suc r)
   pub early : Early old l w added
+  pub begun : Begun old now l w added
   pub countless : counted added ≡ []
   pub looks : looks added + reach (state now) w ≤ place_at (state now) r
   pub hops : hops added + 3 * reach (state now) w ≤ 3 * place_at (state now) r + 1
@@ -56,6 +66,7 @@ pub record Reaches (old new : Pass) (l w r : ℕ) : Type 0 where
   pub names : Names new added l w r
   pub live : (x : Row) → row_at (state new) r ≡ Some x → x.state ≢ Deleted
   pub early : Early old l w added
+  pub begun : Begun old new l w added
   pub countless : counted added ≡ []
   pub looks : looks added + reach (state new) w ≤ suc (place_at (state new) r)
   pub hops : hops added + 3 * reach (state new) w ≤ 3 * suc (place_at (state new) r) + 1
@@ -66,14 +77,18 @@ EndShown new added l w =
     (link_after (node_at l w) added ≡ Some 0)
     ⊎ ((d : ℕ) × IsIn (state new) d Deleted × (link_after (node_at l w) added ≡ Some (suc d)) × (link_after (nodes.Row d) added ≡ Some 0))
 
--- All rows of the list behind the stop are deleted.
+-- All rows of the list behind the stop are deleted. With n rows behind it, there were at most n steps on states, and
+-- 3 n + 1 on links.
 pub record Ends (old new : Pass) (l w : ℕ) : Type 0 where
   pub added : List Tried
   pub tries : Tries old new added
   pub gone : (m : ℕ) → AreDeleted (state new) l (reach (state new) w) m
   pub shown : EndShown new added l w
   pub early : Early old l w added
+  pub begun : Begun old new l w added
   pub countless : counted added ≡ []
+  pub looks : looks added + reach (state new) w ≤ length (rows_of (state new) l)
+  pub hops : hops added + 3 * reach (state new) w ≤ 3 * length (rows_of (state new) l) + 1
 
 -- a step over a run has come to this row, or to the end of the list
 abbrev pub Comes : Pass → Pass → ℕ → ℕ → Option ℕ → Type 0
@@ -90,6 +105,7 @@ pub record Turned (old now : Pass) (l w r : ℕ) : Type 0 where
   pub added : List Tried
   pub tries : Tries old now added
   pub early : Early old l w added
+  pub begun : Begun old now l w added
   pub countless : counted added ≡ []
   pub looks : looks added + reach (state now) w ≤ suc (place_at (state now) r)
   pub hops : hops added + 3 * reach (state now) w ≤ 3 * place_at (state now) r + 2
@@ -113,6 +129,7 @@ pub record Passes (old new : Pass) (l w r u : ℕ) : Type 0 where
   pub watched : watched new ≡ watch_of (node_at l w) (suc u)
   -- no other link was touched
   pub alone : (v : ℕ) → v ≢ w → link_after (node_at l v) added ≡ None
+  pub others : (m : ℕ) → m ≢ l → NoHead m added
   pub countless : counted added ≡ []
   pub looks : looks added ≡ 0
   pub hops : hops added ≤ 2

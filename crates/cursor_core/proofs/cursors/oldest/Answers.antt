@@ -1,8 +1,8 @@
-use Rattle.std.proofs.Common.{◌≡◌, ◌≤◌, sym, ◌∙◌, arith}
+use Rattle.std.proofs.Common.{◌≡◌, refl, arith}
 use Rattle.acts_core.specs.Walks.{Ready}
 use Rattle.acts_core.proofs.Walking.{done_none}
 use Rattle.entry_table.specs.Passes.{opening}
-use Rattle.entry_table.specs.Sights.{sight}
+use Rattle.entry_table.specs.Sights.{build_of, sight}
 use Rattle.entry_table.proofs.Later.{kept_same, kept_trans, pass_of, opening_lists}
 use Rattle.cursor_core.proofs.Calling.{more_done, oldest_answers, oldest_ends}
 use Rattle.cursor_core.proofs.cursors.oldest.Goals as goal
@@ -16,7 +16,7 @@ loop-list-init g c = record {
 
 pub returns-in-Some-clause-called : goal.returns-in-Some-clause-called
 returns-in-Some-clause-called g c =
-    oldest_answers c.args.entries.now.shape.rows c.loop-list.list c.in-Some.row (g.C.Freight.goods c.in-Some.cargo) (sight c.args.pass.now) (sight c.loop-list.pass) (sight c.walk_ready.new.pass) c.loop-list.invariant.done c.in-Some.ensures.walks
+    oldest_answers (build_of c.args.entries.now) c.loop-list.list c.in-Some.row (g.C.Freight.goods c.in-Some.cargo) (sight c.args.pass.now) (sight c.loop-list.pass) (sight c.walk_ready.new.pass) refl c.loop-list.invariant.done c.in-Some.ensures.walks
 
 pub loop-list-preserved : goal.loop-list-preserved
 loop-list-preserved g c = record {
@@ -29,4 +29,4 @@ pub returns-clause-called : goal.returns-clause-called
 returns-clause-called g c =
     let all = opening_lists c.args.entries.now c.args.pass.now c.requires.serves.pass in
     let end : c.loop-list.list ≡ (opening c.args.pass.now).lists = omega (arith, all, c.lists-list-end.ensures, c.loop-list-test.false, c.loop-list.auto.list-end) in
-    oldest_ends c.args.entries.now.shape.rows c.loop-list.list (sight c.args.pass.now) (sight c.loop-list.pass) end c.loop-list.invariant.done
+    oldest_ends (build_of c.args.entries.now) c.loop-list.list (sight c.args.pass.now) (sight c.loop-list.pass) refl end c.loop-list.invariant.done

@@ -1,51 +1,61 @@
-use Rattle.std.proofs.Common.{◌≡◌, ◌<◌, ◌+◌, ℕ, suc, subst, arith}
-use Rattle.queue_model.specs.State.{place_at}
-use Rattle.acts_core.specs.Walks.{FreeTo, IsStop}
-use Rattle.acts_core.proofs.Coming.{stop_there, goes_on, smaller}
-use Rattle.acts_core.proofs.Walking.{walk_first}
-use Rattle.entry_table.specs.Passes.{state}
-use Rattle.entry_table.specs.Sights.{sight}
-use Rattle.entry_table.proofs.Later.{kept_trans, pass_of, some_of}
-use Rattle.cursor_core.proofs.Getting.{got_free}
+use Rattle.std.proofs.Common.{arith}
+use Rattle.entry_table.proofs.Later.{kept_trans, pass_of}
+use Rattle.scavenge_core.proofs.Stepping.{row_low}
+use Rattle.cursor_core.proofs.AtPass.{faced_known, free_got, free_stop, free_faces, free_smaller}
 use Rattle.cursor_core.proofs.walks.walk_free.Goals as goal
 
 pub rows-init : goal.rows-init
 rows-init g c =
-    let k = c.follow-next.ensures in
-    record {
-      table = pass_of c.args.entries.now c.args.pass.now c.follow-next.new.pass c.requires.table k.kept;
+    let k = c.first-next.ensures in record {
+      table = pass_of c.args.entries.now c.args.pass.now c.first-next.new.pass c.requires.table k.kept;
       kept = k.kept;
-      faces = walk_first (sight c.args.pass.now) (sight c.follow-next.new.pass) (FreeTo c.args.consumer) c.args.list c.follow-next.result k.follows;
-      low = k.low;
+      faces = k.faces;
     }
 
-pub returns-in-Some-take_free-clause-walks : goal.returns-in-Some-take_free-clause-walks
-returns-in-Some-take_free-clause-walks g c = got_free (sight c.args.pass.now) (sight c.rows.pass) (sight c.take_free.new.pass) c.args.consumer c.args.list c.in-Some.row (g.C.Freight.goods c.in-Some-take_free.cargo) c.rows.next c.rows.invariant.faces c.in-Some.is c.in-Some-take_free.ensures.takes
+pub take_free-requires-clause-known : goal.take_free-requires-clause-known
+take_free-requires-clause-known g c =
+    let i = c.rows.invariant in
+    let there = faced_known c.args.pass.now c.rows.pass c.args.consumer c.args.list c.args.stop.now c.rows.stop c.in-Some.row c.rows.next i.kept i.faces c.in-Some.is in
+    (there.0, there.1)
 
-pub follow-next-requires-in-Some-clause-stop : goal.follow-next-requires-in-Some-clause-stop
-follow-next-requires-in-Some-clause-stop g c =
-    let e : suc c.in-Some.row ≡ c.in-Some.row + 1 = omega arith in
-    subst (λ (n : ℕ). IsStop (state c.take_free.new.pass) c.args.list n) e
-    (stop_there (sight c.args.pass.now) (sight c.rows.pass) (sight c.take_free.new.pass) (FreeTo c.args.consumer) c.args.list c.in-Some.row c.rows.next c.rows.invariant.faces c.in-Some.is c.in_default-take_free.ensures.takes)
+pub returns-in-Some-take_free-clause-walks : goal.returns-in-Some-take_free-clause-walks
+returns-in-Some-take_free-clause-walks g c =
+    let i = c.rows.invariant in
+    free_got c.args.pass.now c.rows.pass c.take_free.new.pass c.args.consumer c.args.list c.args.stop.now c.rows.stop c.in-Some.row (g.C.Freight.goods c.in-Some-take_free.cargo) c.rows.next c.requires.consumer i.kept i.faces c.in-Some.is c.in-Some-take_free.ensures.tries
+
+pub step_behind-next-requires-clause-stop : goal.step_behind-next-requires-clause-stop
+step_behind-next-requires-clause-stop g c =
+    let i = c.rows.invariant in
+    free_stop c.args.pass.now c.rows.pass c.take_free.new.pass c.args.consumer c.args.list c.args.stop.now c.rows.stop c.in-Some.row c.rows.next c.requires.consumer i.kept c.take_free.ensures.kept i.faces c.in-Some.is c.in_default-take_free.ensures.tries
 
 pub rows-smaller : goal.rows-smaller
 rows-smaller g c =
-    let low = some_of (λ (row : ℕ). (row < c.args.entries.now.shape.rows) × (place_at (state c.rows.pass) row < c.args.entries.now.shape.rows)) c.rows.next c.in-Some.row c.rows.invariant.low c.in-Some.is in
-    smaller c.args.entries.now.shape.rows (sight c.args.pass.now) (sight c.rows.pass) (sight c.take_free.new.pass) (sight c.follow-next-in-Some.new.pass) (FreeTo c.args.consumer) c.args.list c.in-Some.row c.rows.next c.follow-next-in-Some.result
-    c.rows.invariant.faces c.in-Some.is c.in_default-take_free.ensures.takes c.follow-next-in-Some.ensures.follows low.1
+    let i = c.rows.invariant in
+    free_smaller c.args.pass.now c.rows.pass c.take_free.new.pass c.args.consumer c.args.list c.args.stop.now c.rows.stop c.in-Some.row c.rows.next c.requires.consumer i.kept c.take_free.ensures.kept i.faces c.in-Some.is c.in_default-take_free.ensures.tries
+    c.args.entries.now c.step_behind-next.new.pass c.step_behind-next.result i.table c.step_behind-next.ensures.kept c.step_behind-next.ensures.steps
 
 pub rows-preserved : goal.rows-preserved
 rows-preserved g c =
-    let e = c.args.entries.now in
-    let now = c.rows.pass in
+    let i = c.rows.invariant in
     let mid = c.take_free.new.pass in
-    let last = c.follow-next-in-Some.new.pass in
-    let first = c.take_free.ensures.kept in
-    let second = c.follow-next-in-Some.ensures in
-    let both = kept_trans now mid last first second.kept in
+    let last = c.step_behind-next.new.pass in
+    let both = kept_trans c.rows.pass mid last c.take_free.ensures.kept c.step_behind-next.ensures.kept in
     record {
-      table = pass_of e now last c.rows.invariant.table both;
-      kept = kept_trans c.args.pass.now now last c.rows.invariant.kept both;
-      faces = goes_on (sight c.args.pass.now) (sight now) (sight mid) (sight last) (FreeTo c.args.consumer) c.args.list c.in-Some.row c.rows.next c.follow-next-in-Some.result c.rows.invariant.faces c.in-Some.is c.in_default-take_free.ensures.takes second.follows;
-      low = second.low;
+      table = pass_of c.args.entries.now c.rows.pass last i.table both;
+      kept = kept_trans c.args.pass.now c.rows.pass last i.kept both;
+      faces = free_faces c.args.pass.now c.rows.pass mid c.args.consumer c.args.list c.args.stop.now c.rows.stop c.in-Some.row c.rows.next c.requires.consumer i.kept c.take_free.ensures.kept i.faces c.in-Some.is c.in_default-take_free.ensures.tries last c.step_behind-next.result c.step_behind-next.ensures.steps;
     }
+
+pub overflow_add-stop : goal.overflow_add-stop
+overflow_add-stop g c =
+    let i = c.rows.invariant in
+    let e = c.args.entries.now in
+    let low = (row_low e c.rows.pass c.args.list c.in-Some.row i.table (faced_known c.args.pass.now c.rows.pass c.args.consumer c.args.list c.args.stop.now c.rows.stop c.in-Some.row c.rows.next i.kept i.faces c.in-Some.is)).0 in
+    let rows = e.rows in record { fits = omega (arith, low, rows) }
+
+pub overflow_add-stop-in-Some : goal.overflow_add-stop-in-Some
+overflow_add-stop-in-Some g c =
+    let i = c.rows.invariant in
+    let e = c.args.entries.now in
+    let low = (row_low e c.rows.pass c.args.list c.in-Some.row i.table (faced_known c.args.pass.now c.rows.pass c.args.consumer c.args.list c.args.stop.now c.rows.stop c.in-Some.row c.rows.next i.kept i.faces c.in-Some.is)).0 in
+    let rows = e.rows in record { fits = omega (arith, low, rows) }

@@ -1,10 +1,7 @@
-use Rattle.std.proofs.Common.{◌<◌}
-use Rattle.std.specs.Prelude.{IfSome}
-use Rattle.queue_model.specs.State.{place_at}
-use Rattle.acts_core.specs.Walks.{FreeTo, Faces}
-use Rattle.entry_table.specs.Passes.{IsPassOf, Kept, state}
-use Rattle.entry_table.specs.Sights.{sight}
 use Rattle.acts_core.proofs.Coming.{left}
+use Rattle.entry_table.specs.Passes.{IsPassOf, Kept, opening, state}
+use Rattle.entry_table.specs.Sights.{sight}
+use Rattle.cursor_core.specs.Walking.{Faces}
 use Rattle.cursor_core.proofs.walks.walk_free.Given as goal
 
 -- the row to try next; none where the end was shown
@@ -12,8 +9,7 @@ abbrev pub invariant-rows : goal.invariant-rows
 invariant-rows g l = record {
   table : IsPassOf l.entries l.pass;
   kept : Kept l.fn.pass l.pass;
-  faces : Faces (sight l.fn.pass) (sight l.pass) (FreeTo l.consumer) l.list l.next;
-  low : IfSome l.next (λ row. (row < l.entries.shape.rows) × (place_at (state l.pass) row < l.entries.shape.rows));
+  faces : Faces (opening l.fn.pass) (sight l.fn.pass) (sight l.pass) l.consumer l.list l.fn.stop l.stop l.next;
 }
 
 -- places that are left

@@ -1,10 +1,7 @@
-use Rattle.std.proofs.Common.{◌<◌}
-use Rattle.std.specs.Prelude.{IfSome}
-use Rattle.queue_model.specs.State.{place_at}
 use Rattle.acts_core.specs.Walks.{Ready, Faces}
+use Rattle.acts_core.proofs.Coming.{left}
 use Rattle.entry_table.specs.Passes.{IsPassOf, Kept, state}
 use Rattle.entry_table.specs.Sights.{sight}
-use Rattle.acts_core.proofs.Coming.{left}
 use Rattle.cursor_core.proofs.walks.walk_ready.Given as goal
 
 -- the row to try next; none where the end was shown
@@ -13,7 +10,6 @@ invariant-rows g l = record {
   table : IsPassOf l.entries l.pass;
   kept : Kept l.fn.pass l.pass;
   faces : Faces (sight l.fn.pass) (sight l.pass) Ready l.list l.next;
-  low : IfSome l.next (λ row. (row < l.entries.shape.rows) × (place_at (state l.pass) row < l.entries.shape.rows));
 }
 
 -- places that are left

@@ -11,11 +11,12 @@ use Rattle.scavenge_core.proofs.skips.step_behind.Goals as goal
 
 pub rows-init : goal.rows-init
 rows-init g c =
-    let k = c.watch-next.ensures in record {
+    let k = c.watch-next.ensures in
+    let stop = stop_after c.args.pass.now c.watch-next.new.pass c.args.list c.args.stop k.kept k.did c.requires.stop in record {
       table = pass_of c.args.entries.now c.args.pass.now c.watch-next.new.pass c.requires.table k.kept;
       kept = k.kept;
-      stop = stop_after c.args.pass.now c.watch-next.new.pass c.args.list c.args.stop k.kept k.did c.requires.stop;
-      comes = comes_first c.args.pass.now c.watch-next.new.pass c.args.list c.args.stop c.watch-next.result k.kept k.did k.follows k.watching;
+      stop = stop;
+      comes = comes_first c.args.pass.now c.watch-next.new.pass c.args.list c.args.stop c.watch-next.result stop k.kept k.did k.follows k.watching;
     }
 
 pub look-found-requires-clause-word : goal.look-found-requires-clause-word
