@@ -1,6 +1,6 @@
 -- what a call asks, in what its pass has seen, holds in the state in which it is served
-use Rattle.std.proofs.Common.{◌≡◌, ℕ, suc, ◌+◌, ◌<◌, ◌≤◌, ◌^◌, List, [], ◌∷◌, ◌++◌, length, refl, sym, ap, ◌∙◌, subst, arith, Option, Some, None, append-nil}
-use mathlib.Core.List.{IsPrefix, Mem}
+use Rattle.std.proofs.Common.{◌≡◌, ℕ, ◌+◌, ◌≤◌, ◌^◌, List, [], refl, sym, ap, ◌∙◌, subst, arith, Some, append-nil}
+use mathlib.Core.List.{IsPrefix}
 use Rattle.std.proofs.Math.Pow.{pow_mono}
 use Rattle.queue_model.specs.declared.deeds.Deed.{Deed}
 use Rattle.queue_model.specs.declared.queues.Queue.{Queue}
@@ -12,7 +12,7 @@ use Rattle.queue_model.specs.Table.{CanGive, FitsQueue, most_entries}
 use Rattle.queue_model.proofs.Histories.{after-append, legal_rest}
 use Rattle.queue_model.proofs.Owns.{own_rest}
 use Rattle.queue_model.proofs.Stable.{held_row_stays, held_stays, reserved_stays, row_stays}
-use Rattle.acts_core.specs.Asked.{last_on, HasLeft, HasDequeued, Handed}
+use Rattle.acts_core.specs.Asked.{last_on, Handed}
 use Rattle.acts_core.specs.Calls.{Call, CallDepth, CallReserve, CallGiveBack, CallPut, CallNext, CallOldest, CallFind, CallLock, CallUnlock, CallRelease, CallSteal, CallDequeue, CallDelete}
 use Rattle.acts_core.specs.Load.{Load}
 use Rattle.acts_core.specs.Owed.{Has}

@@ -1,28 +1,24 @@
 -- a turn as a call of a shared queue
-use Rattle.std.proofs.Common.{◌≡◌, ◌≢◌, ℕ, ◌+◌, ◌-◌, ◌<◌, ◌≤◌, false, List, [], ◌∷◌, ◌++◌, refl, sym, ap, ◌∙◌, subst, arith, Some, append-nil, inl}
-use mathlib.Core.List.{IsPrefix, Mem}
+use Rattle.std.proofs.Common.{◌≡◌, ℕ, ◌+◌, ◌-◌, ◌<◌, ◌≤◌, false, List, [], ◌∷◌, ◌++◌, refl, sym, ap, ◌∙◌, subst, append-nil, inl}
+use mathlib.Core.List.{Mem}
 use Rattle.queue_model.specs.declared.deeds.Deed.{Deed}
-use Rattle.queue_model.specs.declared.queues.Queue.{Queue}
-use Rattle.queue_model.specs.History.{after, Legal, own, deeds_of}
+use Rattle.queue_model.specs.History.{after, own, deeds_of}
 use Rattle.queue_model.specs.Sound.{IsOpening}
 use Rattle.queue_model.proofs.Histories.{own-append}
 use Rattle.queue_model.proofs.Prefixes.{prefix_trans}
-use Rattle.acts_core.specs.Asked.{IsSightOf}
-use Rattle.acts_core.specs.Calls.{Call, CallPut, Answer, IsAt, IsSpent, acts_of}
-use Rattle.acts_core.specs.Held.{Means}
+use Rattle.acts_core.specs.Calls.{Call, CallPut, Answer, IsSpent, acts_of}
 use Rattle.acts_core.specs.Kept.{Kept}
 use Rattle.acts_core.specs.Load.{Load}
-use Rattle.acts_core.specs.Meaning.{Served, HeldMeans, Besides, MeetsBy, MeetsSight, Called, Shares, allowance_after, share_after, turns_after}
+use Rattle.acts_core.specs.Meaning.{Served, Besides, Called, Shares, share_after, turns_after}
 use Rattle.acts_core.specs.Owed.{taken_any}
 use Rattle.acts_core.specs.Serves.{held_acts, rows_of_call}
-use Rattle.acts_core.specs.Sight.{Kind, Listed, Sorted, LastValue, IsHeldKind, Build, Plan, plan_of, Sight, Showed, Evidence}
+use Rattle.acts_core.specs.Sight.{Kind, Listed, Sorted, LastValue, IsHeldKind, Build, Plan, plan_of, Showed, Evidence}
 use Rattle.queue_model.specs.declared.rows.Slip.{Slip}
 use Rattle.history_lock.specs.declared.view.View.{View}
-use Rattle.history_lock.specs.Plays.{Later}
 use Rattle.history_lock.specs.Views.{Has}
 use Rattle.held_table.specs.declared.view.Outset.{Outset}
 use Rattle.held_table.specs.Sights.{Asks, Sits, sight_by}
-use Rattle.held_table.specs.Tales.{core_tale, IsHistory}
+use Rattle.held_table.specs.Tales.{IsHistory}
 use Rattle.held_table.specs.Turns.{Turned, Passed}
 use Rattle.held_table.specs.Views.{outset_in, rest_of}
 use Rattle.held_table.proofs.Asking.{may_draw}

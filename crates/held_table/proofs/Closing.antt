@@ -1,6 +1,5 @@
 -- the pass that speaks for all
-use Rattle.std.proofs.Common.{◌≡◌, ℕ, ◌<◌, ◌≤◌, List, [], ◌∷◌, refl, sym, ap, ◌∙◌, subst, Some, false, inl, inr}
-use mathlib.Core.List.{Mem}
+use Rattle.std.proofs.Common.{◌≡◌, ◌∷◌, sym, subst, Some, false}
 use Rattle.queue_model.specs.declared.deeds.Deed.{Deed}
 use Rattle.history_lock.specs.declared.view.View.{View}
 use Rattle.history_lock.specs.Plays.{ForAll}

@@ -1,5 +1,5 @@
 -- who dequeues a row deletes it
-use Rattle.std.proofs.Common.{◌≡◌, ◌≢◌, ℕ, Bool, true, false, cond, ◌==◌, ◌⊎◌, List, [], ◌∷◌, ◌++◌, Option, Some, None, refl, sym, ap, ◌∙◌, subst, ⊎_elim, inl, inr, eq-eqb, ne_eqb, eqb-true, append-nil, append_assoc}
+use Rattle.std.proofs.Common.{◌≡◌, ◌≢◌, ℕ, Bool, true, false, cond, ◌⊎◌, List, [], ◌∷◌, ◌++◌, Option, Some, None, refl, sym, ap, ◌∙◌, subst, ⊎_elim, inl, inr, eq-eqb, append-nil, append_assoc}
 use Rattle.std.proofs.lemmas.Bool.{cases_eq, cases_Bool}
 use Rattle.std.specs.List.{AllByRecursion}
 use Rattle.queue_model.specs.declared.deeds.Act.{Act}
@@ -159,9 +159,9 @@ module _ (o : Queue) (ds : List Deed) (h : ℕ) (a : Act) (enders : Enders o ds)
       let held : IsIn (after o ds) r (Locked h) = subst (Can (after o ds) h) is can in (
         subst (λ (q : Queue). IsIn q r Dequeued) (sym (there ∙ ap (acted (after o ds) h) is)) (own_dequeued (after o ds) h r held),
         (λ j x. ⊎_elim
-        (λ (same : j ≡ h). same ∙ sym e)
-        (λ (off : j ≢ h). absurd (dequeues_held o ds h r j a enders can is (other_last h j r a ds off x)))
-        (cases_eq j h)),
+            (λ (same : j ≡ h). same ∙ sym e)
+            (λ (off : j ≢ h). absurd (dequeues_held o ds h r j a enders can is (other_last h j r a ds off x)))
+            (cases_eq j h)),
       ))
       (λ (x : (touches r a ≡ false) × HasDequeued h r ds). (
         before h r x.1 (untouched_leaves r a x.0),

@@ -8,3 +8,4 @@ pub mod Calling
 pub mod Opening
 pub mod Closing
 pub mod Parting
+pub mod Narrowing

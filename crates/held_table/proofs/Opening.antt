@@ -1,6 +1,5 @@
 -- a one-thread queue of available rows stands for one opening
-use Rattle.std.proofs.Common.{◌⊎◌, ⊎_elim, inl, inr, ◌≡◌, ℕ, zero, suc, ◌+◌, ◌-◌, ◌<◌, ◌≤◌, List, [], ◌∷◌, ◌++◌, length, map, refl, sym, ap, ◌∙◌, subst, arith, Option, Some, None, true, false, if◌then◌else◌}
-use mathlib.Core.List.{Mem}
+use Rattle.std.proofs.Common.{◌⊎◌, ⊎_elim, ◌≡◌, ℕ, zero, suc, ◌+◌, ◌<◌, ◌≤◌, List, [], ◌∷◌, length, map, refl, sym, ap, ◌∙◌, subst, arith, Some, None, false, if◌then◌else◌}
 use Rattle.std.specs.List.{AllByRecursion, sum_by}
 use Rattle.queue_model.specs.declared.queues.Depth.{Depth}
 use Rattle.queue_model.specs.declared.queues.Queue.{Queue}
@@ -9,12 +8,11 @@ use Rattle.queue_model.specs.declared.rows.Row.{Row}
 use Rattle.queue_model.specs.declared.rows.RowState.{RowState}
 use Rattle.queue_model.specs.declared.rows.RowState.TheVariants.{Available}
 use Rattle.queue_model.specs.declared.deeds.Deed.{Deed}
-use Rattle.queue_model.specs.Sound.{Sound, IsOpening}
+use Rattle.queue_model.specs.Sound.{IsOpening}
 use Rattle.queue_model.specs.State.{entries, depth, counts, row_entries}
 use Rattle.queue_model.specs.Table.{most_entries}
-use Rattle.acts_core.specs.Asked.{HasDequeued}
 use Rattle.acts_core.specs.Calls.{CallDepth, IsDepth}
-use Rattle.acts_core.specs.Kept.{Kept, KeptRow, Goods, keep, goods_of, at_home, NumberedFrom, Stands}
+use Rattle.acts_core.specs.Kept.{Kept, KeptRow, keep, goods_of, at_home, NumberedFrom, Stands}
 use Rattle.acts_core.specs.Serves.{MayCall, Serves}
 use Rattle.acts_core.specs.Sight.{Kind}
 use Rattle.history_lock.specs.declared.view.View.{View}
@@ -25,7 +23,7 @@ use Rattle.held_table.specs.Openings.{goods_or, row_from, rows_from, open_of, ou
 use Rattle.held_table.specs.Parts.{IsFresh}
 use Rattle.held_table.specs.Sights.{Sits, sight_by}
 use Rattle.held_table.specs.Tales.{wide, core_tale, StandsAt, IsHistory}
-use Rattle.held_table.specs.Views.{below, outset_in}
+use Rattle.held_table.specs.Views.{below}
 use Rattle.held_table.proofs.Members.{mem_has, has_append}
 
 row_back : (n : ℕ) (x : Row) → x.number ≡ n → x.state ≡ Available → row_from n (keep x) ≡ x

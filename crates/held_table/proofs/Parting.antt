@@ -1,27 +1,22 @@
 -- passes that are split off, joined and told
-use Rattle.std.proofs.Common.{◌⊎◌, ⊎_elim, inl, inr, ◌≡◌, ◌≢◌, ℕ, zero, suc, ◌+◌, ◌-◌, ◌<◌, ◌≤◌, false, Bool, true, List, [], ◌∷◌, ◌++◌, length, refl, sym, ap, ◌∙◌, subst, arith, Some, append-nil}
+use Rattle.std.proofs.Common.{⊎_elim, inl, ◌≡◌, ◌≢◌, ℕ, zero, suc, ◌+◌, ◌-◌, ◌<◌, ◌≤◌, false, List, [], ◌∷◌, ◌++◌, refl, sym, ap, ◌∙◌, subst, arith, Some}
 use mathlib.Core.List.{IsPrefix, Mem}
-use Rattle.queue_model.specs.declared.deeds.Act.{Act}
-use Rattle.queue_model.specs.declared.deeds.Act.TheVariants as acts
 use Rattle.queue_model.specs.declared.deeds.Deed.{Deed}
 use Rattle.queue_model.specs.declared.queues.Queue.{Queue}
-use Rattle.queue_model.specs.History.{after, Legal, own}
-use Rattle.queue_model.specs.Table.{acted}
+use Rattle.queue_model.specs.History.{Legal, own}
 use Rattle.acts_core.specs.Kept.{Kept}
 use Rattle.acts_core.specs.Sight.{Sight}
 use Rattle.history_lock.specs.declared.view.View.{View}
-use Rattle.history_lock.specs.Plays.{Later, Looked, Numbered, Cuts, Live, Unmade, behind, cut_left, cut_right, drop_second, second_of, merged, told, note, told_of}
-use Rattle.history_lock.specs.Rule.{Learns}
+use Rattle.history_lock.specs.Plays.{Later, Looked, Numbered, Cuts, Live, Unmade, behind, cut_left, cut_right, drop_second, second_of, merged, told}
 use Rattle.history_lock.specs.Views.{Has, Leads}
-use Rattle.held_table.specs.declared.pass.HeldPass.{HeldPass}
 use Rattle.held_table.specs.declared.view.Outset.{Outset}
-use Rattle.held_table.specs.Parts.{MayPart, IsSplit, Grew, IsJoined, IsMet}
+use Rattle.held_table.specs.Parts.{IsSplit, Grew, IsJoined, IsMet}
 use Rattle.held_table.specs.Seats.{Parted, Knows, Merged, Told}
-use Rattle.held_table.specs.Sights.{Sits, sight, sight_by, view}
-use Rattle.held_table.specs.Tales.{core_tale, IsHistory, rows_after}
+use Rattle.held_table.specs.Sights.{Sits, sight_by}
+use Rattle.held_table.specs.Tales.{core_tale, IsHistory}
 use Rattle.held_table.specs.Views.{is_in, not_in, outset_in, outset_or, rest_of}
 use Rattle.held_table.proofs.Calling.{sits_on}
-use Rattle.held_table.proofs.Members.{mem_has, has_mem, mem_in, kept_has, has_append, ended_has, has_in}
+use Rattle.held_table.proofs.Members.{mem_has, has_mem, kept_has, has_append, ended_has, has_in}
 
 -- a joined or told view is alive
 pub live_merged : (v w m : View Outset Deed) (h : ℕ) → v.opening ≡ Some (outset_in v) → v.callers ≡ h ∷ rest_of v.callers → m ≡ merged v w → (O : Outset) × Live O m

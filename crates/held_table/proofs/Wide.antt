@@ -1,5 +1,5 @@
 -- a state and the same with 64 consumers
-use Rattle.std.proofs.Common.{true, ◌≡◌, ℕ, ◌<◌, ◌≤◌, Option, Some, None, List, [], ◌∷◌, refl, sym, ap, ◌∙◌, subst}
+use Rattle.std.proofs.Common.{true, ◌≡◌, ℕ, Option, Some, None, List, [], ◌∷◌, refl, sym, ap, ◌∙◌, subst}
 use Rattle.std.specs.List.{AllByRecursion}
 use Rattle.queue_model.specs.declared.deeds.Act.{Act}
 use Rattle.queue_model.specs.declared.deeds.Act.TheVariants.{Acq, Lock, Unlock, Steal, Rel, Deq, Del, Reserve, GiveBack, Enq, Bell, Take}
@@ -16,7 +16,7 @@ use Rattle.acts_core.specs.Load.{Load}
 use Rattle.acts_core.specs.Moments.{HandsOut}
 use Rattle.acts_core.specs.Owed.{is_free}
 use Rattle.acts_core.specs.Serves.{held_acts}
-use Rattle.acts_core.specs.Sight.{Kind, Listed, Sorted, LastValue, order_of}
+use Rattle.acts_core.specs.Sight.{Kind, Sorted, LastValue, order_of}
 use Rattle.held_table.specs.Tales.{wide}
 
 -- Acts

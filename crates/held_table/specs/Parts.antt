@@ -1,5 +1,5 @@
 -- how held queues are made, and their passes split off, joined, told and given back
-use Rattle.std.specs.Prelude.{◌≡◌, ◌≢◌, ℕ, ◌+◌, ◌-◌, ◌<◌, ◌≤◌, false, Some, List, [], ◌∷◌, ◌++◌, length}
+use Rattle.std.specs.Prelude.{◌≡◌, ℕ, ◌+◌, ◌-◌, ◌<◌, ◌≤◌, false, List, [], ◌∷◌, ◌++◌, length}
 use mathlib.Core.List.{IsPrefix, Mem}
 use Rattle.queue_model.specs.History.{Legal, own}
 use Rattle.queue_model.specs.Table.{most_entries}

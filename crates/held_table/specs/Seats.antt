@@ -1,5 +1,5 @@
 -- views of seats that are split off, joined and told
-use Rattle.std.specs.Prelude.{◌≡◌, ℕ, ◌+◌, ◌-◌, ◌≤◌, false, List, [], ◌∷◌, ◌++◌}
+use Rattle.std.specs.Prelude.{◌≡◌, ℕ, ◌+◌, ◌-◌, ◌≤◌, false, List, [], ◌∷◌}
 use Rattle.queue_model.specs.declared.deeds.Deed.{Deed}
 use Rattle.acts_core.specs.Kept.{Kept}
 use Rattle.history_lock.specs.declared.view.View.{View}

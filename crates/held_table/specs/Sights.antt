@@ -1,5 +1,5 @@
 -- a held queue and its passes, as the contracts of every queue see them
-use Rattle.std.specs.Prelude.{◌≡◌, ℕ, ◌+◌, ◌<◌, ◌≤◌, false, List, [], length}
+use Rattle.std.specs.Prelude.{◌≡◌, ℕ, ◌+◌, ◌<◌, ◌≤◌, false, [], length}
 use mathlib.Core.List.{Mem}
 use Rattle.std.proofs.Common.{arith}
 use Rattle.queue_model.specs.declared.deeds.Deed.{Deed}

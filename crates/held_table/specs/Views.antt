@@ -1,5 +1,5 @@
 -- what stands in the view of a pass
-use Rattle.std.specs.Prelude.{◌≡◌, ℕ, zero, suc, ◌+◌, ◌==◌, Bool, true, false, not, if◌then◌else◌, Option, Some, None, List, [], ◌∷◌, ◌++◌, filter}
+use Rattle.std.specs.Prelude.{ℕ, zero, suc, ◌==◌, Bool, true, false, not, if◌then◌else◌, Option, Some, None, List, [], ◌∷◌, ◌++◌, filter}
 use Rattle.queue_model.specs.declared.deeds.Deed.{Deed}
 use Rattle.queue_model.specs.State.{empty}
 use Rattle.history_lock.specs.declared.view.View.{View}

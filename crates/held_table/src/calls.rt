@@ -36,8 +36,7 @@ impl<C: Freight, Q: BareCore<C>, R: Wait + Drop> Held<C, Q, R> {
 }
 
 impl<C: Cargo + Sync, Q: QueueCore<C>, R: Wait + Send + Sync + Drop> SharedQueue<C>
-    for Held<C, Q, R>
-{
+    for Held<C, Q, R> {
     ghost use Rattle.held_table.specs.Sights as held;
 
     type Pass = HeldPass;

@@ -14,3 +14,6 @@ mod works;
 pub use pass::HeldPass;
 pub use table::Held;
 pub use view::{Outset, Tales};
+
+#[cfg(test)]
+mod tests;

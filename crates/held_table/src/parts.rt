@@ -84,8 +84,11 @@ impl<C: Freight, Q: BareCore<C>, R: Wait + Drop> Held<C, Q, R> {
         requires enough { (amount ≤ seat.old.me.0.allowance) × (amount ≤ seat.old.me.0.share) }
         ensures table { (seat.new.table_id ≡ seat.old.table_id) × (seat.new.id ≡ seat.old.id)
             × (result.table_id ≡ seat.old.table_id) }
-        ensures views { (seat.new.me ≡ (cut_left amount amount
-                (not_in consumers.now seat.old.me.0.consumers) seat.old.me.0, seat.old.me.1))
+        ensures views { (seat.new.me ≡ (
+          cut_left amount amount
+              (not_in consumers.now seat.old.me.0.consumers) seat.old.me.0,
+          seat.old.me.1,
+        ))
             × (result.me ≡ (cut_right amount amount consumers.now seat.old.me.0, [])) }
     {
         self.cut::<Brand>(seat, consumers, amount, drawn)
@@ -106,7 +109,7 @@ impl<C: Freight, Q: BareCore<C>, R: Wait + Drop> Held<C, Q, R> {
         ensures table { (seat.new.table_id ≡ seat.old.table_id) × (seat.new.id ≡ seat.old.id)
             × (result.table_id ≡ seat.old.table_id) }
         ensures views { (seat.new.me
-                ≡ (cut_left J.allowance J.share J.kept seat.old.me.0, seat.old.me.1))
+            ≡ (cut_left J.allowance J.share J.kept seat.old.me.0, seat.old.me.1))
             × (result.me ≡ (cut_right J.allowance J.share J.moved seat.old.me.0, [])) }
     {
         let _picked = (consumers.len(), amount);

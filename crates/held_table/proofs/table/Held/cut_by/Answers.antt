@@ -1,4 +1,3 @@
-use Rattle.held_table.specs.Views.{outset_in}
 use Rattle.held_table.proofs.Parting.{cuts}
 use Rattle.held_table.proofs.table.Held.cut_by.Goals as goal
 

@@ -1,11 +1,11 @@
-use Rattle.std.proofs.Common.{◌≡◌, ◌+◌, ◌∷◌, ℕ, ap, sym, ◌∙◌, subst, List, length, arith}
+use Rattle.std.proofs.Common.{◌≡◌, ap, sym, ◌∙◌, subst, length, arith}
 use Rattle.atomic_table.specs.declared.badge.Badge.{Badge}
 use Rattle.queue_model.specs.declared.deeds.Deed.{Deed}
 use Rattle.history_lock.specs.declared.view.View.{View}
 use Rattle.held_table.specs.declared.view.Outset.{Outset}
 use Rattle.held_table.specs.Seats.{Merged}
-use Rattle.held_table.specs.Sights.{view, sight_by}
-use Rattle.held_table.specs.Views.{view_in, outset_in, rest_of}
+use Rattle.held_table.specs.Sights.{view}
+use Rattle.held_table.specs.Views.{view_in, outset_in}
 use Rattle.held_table.proofs.Costs.{rows_grow}
 use Rattle.held_table.proofs.Parting.{is_joined, sits_merged}
 use Rattle.held_table.proofs.table.Held.join.Goals as goal

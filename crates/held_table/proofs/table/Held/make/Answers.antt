@@ -1,4 +1,4 @@
-use Rattle.std.proofs.Common.{rules, ◌≡◌, ◌+◌, ◌∷◌, ℕ, Some, [], List, length, refl, sym, ap, ◌∙◌, subst, arith, false}
+use Rattle.std.proofs.Common.{rules, ◌≡◌, ◌+◌, ◌∷◌, Some, [], List, length, refl, sym, ap, ◌∙◌, subst, arith, false}
 use Rattle.queue_model.specs.declared.deeds.Deed.{Deed}
 use Rattle.history_lock.specs.declared.view.View.{View}
 use Rattle.history_lock.specs.Plays.{opened}

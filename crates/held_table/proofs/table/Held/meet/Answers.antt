@@ -1,12 +1,11 @@
-use Rattle.std.proofs.Common.{◌≡◌, ◌+◌, ◌∷◌, ℕ, ap, sym, ◌∙◌, subst, List, length}
+use Rattle.std.proofs.Common.{◌≡◌, ap, sym, ◌∙◌, subst, length}
 use Rattle.atomic_table.specs.declared.badge.Badge.{Badge}
 use Rattle.queue_model.specs.declared.deeds.Deed.{Deed}
 use Rattle.history_lock.specs.declared.view.View.{View}
 use Rattle.held_table.specs.declared.view.Outset.{Outset}
-use Rattle.history_lock.specs.Plays.{note}
 use Rattle.held_table.specs.Seats.{Told}
 use Rattle.held_table.specs.Sights.{Sits, sight, view, sight_by}
-use Rattle.held_table.specs.Views.{view_in, outset_in, rest_of}
+use Rattle.held_table.specs.Views.{view_in, outset_in}
 use Rattle.held_table.proofs.Parting.{is_met, sits_told}
 use Rattle.held_table.proofs.table.Held.meet.Goals as goal
 
@@ -50,4 +49,4 @@ returns-clause-met g c =
     let later : u ≡ c.tell_at.new.seat.me.0 = ap view_in c.into_badge-2.ensures.2 in
     let m : Told g.Q.BareCore.keeps v c.note_at-note.result.me.0 u = subst (λ (z : View Outset Deed × View Outset Deed). Told g.Q.BareCore.keeps z.0 c.note_at-note.result.me.0 z.1) (λ i. (before i, sym later i)) c.tell_at.ensures.told in
     is_met g.Q.BareCore.keeps v c.note_at-note.result.me.0 u c.args.to.now.caller c.args.to.now.speaks m (sight c.args.from.now)
-      (ap (λ (z : View Outset Deed). z.seen) (sym first) ∙ sym (ap (λ m. m.0.seen) c.note_at-note.ensures.views.1))
+    (ap (λ (z : View Outset Deed). z.seen) (sym first) ∙ sym (ap (λ m. m.0.seen) c.note_at-note.ensures.views.1))

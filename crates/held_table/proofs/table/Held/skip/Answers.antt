@@ -1,4 +1,4 @@
-use Rattle.std.proofs.Common.{◌≡◌, ◌+◌, refl, ap, sym, ◌∙◌, subst, List, length}
+use Rattle.std.proofs.Common.{◌≡◌, ◌+◌, ap, sym, ◌∙◌, subst, length}
 use Rattle.atomic_table.specs.declared.badge.Badge.{Badge}
 use Rattle.queue_model.specs.declared.deeds.Deed.{Deed}
 use Rattle.history_lock.specs.declared.view.View.{View}

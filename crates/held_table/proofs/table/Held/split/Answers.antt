@@ -1,4 +1,4 @@
-use Rattle.std.proofs.Common.{◌≡◌, ◌+◌, ◌∷◌, ℕ, ap, sym, ◌∙◌, subst, List, length}
+use Rattle.std.proofs.Common.{◌≡◌, ◌∷◌, ℕ, ap, sym, ◌∙◌, subst, length}
 use Rattle.atomic_table.specs.declared.badge.Badge.{Badge}
 use Rattle.queue_model.specs.declared.deeds.Deed.{Deed}
 use Rattle.history_lock.specs.declared.view.View.{View}
@@ -57,4 +57,4 @@ returns-clause-split g c =
     let p : Parted g.Q.BareCore.keeps v w u cs n c.split_at-caller.result.0 = subst (λ (z : View Outset Deed × View Outset Deed × View Outset Deed). Parted g.Q.BareCore.keeps z.0 z.1 z.2 cs n c.split_at-caller.result.0) (λ i. (before i, sym later i, sym new i)) c.split_at-caller.ensures.parted in
     let is : v.callers ≡ 0 ∷ rest_of v.callers = c.args.boss.now.speaks ∙ ap (λ (k : ℕ). k ∷ rest_of v.callers) c.requires.may.boss in
     subst (λ (h : ℕ). IsSplit (sight_by h v) (sight_by h w) (sight_by c.split_at-caller.result.0 u) cs n) (sym c.requires.may.boss)
-      (is_split g.Q.BareCore.keeps v w u cs n c.split_at-caller.result.0 p is c.requires.serves.sits)
+    (is_split g.Q.BareCore.keeps v w u cs n c.split_at-caller.result.0 p is c.requires.serves.sits)

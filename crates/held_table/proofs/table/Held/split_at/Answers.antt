@@ -1,4 +1,4 @@
-use Rattle.std.proofs.Common.{ap, sym, ◌∙◌, subst, refl, ◌≤◌, ℕ, false, List}
+use Rattle.std.proofs.Common.{ap, sym, ◌∙◌, subst, refl, ◌≤◌, ℕ}
 use Rattle.queue_model.specs.declared.deeds.Deed.{Deed}
 use Rattle.history_lock.specs.declared.view.View.{View}
 use Rattle.history_lock.specs.Views.{Has}
@@ -52,4 +52,4 @@ returns-clause-parted g c =
     let v = c.args.seat.now.me.0 in
     let d = (c.number-drawn.ensures.told (outset_in v) c.requires.live.0).1 in
     parted g.Q.BareCore.keeps v c.number-drawn.new.seat.me.0 c.cut_by-part.new.seat.me.0 c.cut_by-part.result.me.0 c.args.consumers.now c.args.amount c.number-drawn.result c.requires.live.0 c.requires.live.1 d
-      (ap (λ m. m.0) c.cut_by-part.ensures.views.0) (ap (λ m. m.0) c.cut_by-part.ensures.views.1) c.requires.idle.1
+    (ap (λ m. m.0) c.cut_by-part.ensures.views.0) (ap (λ m. m.0) c.cut_by-part.ensures.views.1) c.requires.idle.1

@@ -1,4 +1,4 @@
-use Rattle.std.proofs.Common.{◌≡◌, ◌+◌, refl, ap, sym, ◌∙◌, subst, List, length}
+use Rattle.std.proofs.Common.{◌≡◌, ◌+◌, ap, sym, ◌∙◌, subst, length}
 use Rattle.atomic_table.specs.declared.badge.Badge.{Badge}
 use Rattle.queue_model.specs.declared.deeds.Deed.{Deed}
 use Rattle.history_lock.specs.declared.view.View.{View}
@@ -19,9 +19,11 @@ returns-clause-called g c =
     let kind = g.Q.BareCore.kind_of in
     let keeps = g.Q.BareCore.keeps in
     let call = g.W.Work.call c.args.work in
-    let h = c.args.pass.now.caller in
-    (t.0, called_turn keeps kind g.met.Q.BareCore.is_held (c.args.self.now.spare + c.args.self.now.entries) h v w c.args.pass.now.speaks c.requires.serves.sits call (g.W.Work.said t.0 c.turn_as-reply.result) c.requires.asks
-      (subst (λ (z : View Outset Deed × View Outset Deed). Turned keeps kind (outset_in z.0) h z.0 z.1 call (g.W.Work.said t.0 c.turn_as-reply.result)) (λ i. (before i, sym later i)) t.1))
+    let h = c.args.pass.now.caller in (
+      t.0,
+      called_turn keeps kind g.met.Q.BareCore.is_held (c.args.self.now.spare + c.args.self.now.entries) h v w c.args.pass.now.speaks c.requires.serves.sits call (g.W.Work.said t.0 c.turn_as-reply.result) c.requires.asks
+          (subst (λ (z : View Outset Deed × View Outset Deed). Turned keeps kind (outset_in z.0) h z.0 z.1 call (g.W.Work.said t.0 c.turn_as-reply.result)) (λ i. (before i, sym later i)) t.1),
+    )
 
 pub returns-clause-serves : goal.returns-clause-serves
 returns-clause-serves g c =

@@ -1,4 +1,4 @@
-use Rattle.std.proofs.Common.{refl, ap, sym, ◌∙◌, subst, inl, ◌∷◌, List, ℕ}
+use Rattle.std.proofs.Common.{refl, ap, sym, subst, inl}
 use Rattle.queue_model.specs.declared.deeds.Deed.{Deed}
 use Rattle.history_lock.specs.declared.view.View.{View}
 use Rattle.history_lock.specs.Views.{Has}
@@ -27,7 +27,7 @@ finish-requires-clause-owes g c =
     let v = c.args.seat.now.me.0 in
     let s = c.run-reply.ensures.serves in
     finishes g.Q.BareCore.keeps g.Q.BareCore.kind_of v c.lock-core.new.seat.me.0 c.lock-core.result c.run-reply.new.core c.args.caller (rest_of v.callers) (g.W.Work.call c.args.work) g.J.Doing.call (g.W.Work.said s.0 c.run-reply.result) _
-      c.requires.sits c.requires.live.0 c.requires.live.1 (c.lock-core.ensures.took (outset_in v) c.requires.live.0) c.requires.asks s.1 c.requires.call (g.met.W.Work.alike s.0 c.run-reply.result)
+    c.requires.sits c.requires.live.0 c.requires.live.1 (c.lock-core.ensures.took (outset_in v) c.requires.live.0) c.requires.asks s.1 c.requires.call (g.met.W.Work.alike s.0 c.run-reply.result)
 
 pub returns-clause-turned : goal.returns-clause-turned
 returns-clause-turned g c =
@@ -35,5 +35,5 @@ returns-clause-turned g c =
     let s = c.run-reply.ensures.serves in (
       s.0,
       ends g.Q.BareCore.keeps g.Q.BareCore.kind_of v c.lock-core.new.seat.me.0 c.lock-core.result c.run-reply.new.core c.args.caller (rest_of v.callers) (g.W.Work.call c.args.work) g.J.Doing.call (g.W.Work.said s.0 c.run-reply.result) _
-        c.requires.sits c.requires.live.0 c.requires.live.1 (c.lock-core.ensures.took (outset_in v) c.requires.live.0) c.requires.asks s.1 c.requires.call (g.met.W.Work.alike s.0 c.run-reply.result) c.finish.new.seat.me.0 c.requires.idle.1 (ap (λ m. m.0) c.finish.ensures.gave),
+          c.requires.sits c.requires.live.0 c.requires.live.1 (c.lock-core.ensures.took (outset_in v) c.requires.live.0) c.requires.asks s.1 c.requires.call (g.met.W.Work.alike s.0 c.run-reply.result) c.finish.new.seat.me.0 c.requires.idle.1 (ap (λ m. m.0) c.finish.ensures.gave),
     )
