@@ -1,4 +1,4 @@
-use crate::{Parcel, Receipt};
+use crate::{Parcel, Receipt, Staged, Staging};
 use acts_core::Cargo;
 use message_core::Message;
 use std::alloc::Global;
@@ -30,5 +30,36 @@ fn ample(rt: HostRuntime) -> Result<(), Fail> {
     assert_eq!(rt; parcel.receipt(), None);
     assert_eq!(rt; parcel.delivered(), 1);
     assert_eq!(rt; facts(&parcel), (7, 18, 1));
+    Ok(())
+}
+
+// The acknowledgement of a row.
+fn ack(alloc: Global, row: u64) -> Result<Staged, Fail> {
+    let parcel = Parcel::of(message(alloc, b"hi")?, None, 0);
+    Ok(Staged::Ack {
+        queue: 1,
+        row,
+        parcel,
+    })
+}
+
+// The row that an acknowledgement is of.
+fn row_of(staged: Option<Staged>) -> Option<u64> {
+    match staged {
+        Some(Staged::Ack { row, .. }) => Some(row),
+        _ => None,
+    }
+}
+
+#[test]
+fn what_is_staged_comes_out_in_order(rt: HostRuntime) -> Result<(), Fail> {
+    let mut staging = Staging::with_room(rt.alloc(), 2)?;
+    staging.push(ack(rt.alloc(), 5)?);
+    staging.push(ack(rt.alloc(), 3)?);
+    assert_eq!(rt; row_of(staging.pop_first()), Some(5));
+    assert_eq!(rt; row_of(staging.pop_first()), Some(3));
+    assert!(rt; staging.pop_first().is_none());
+    staging.push(ack(rt.alloc(), 4)?);
+    assert_eq!(rt; row_of(staging.pop_first()), Some(4));
     Ok(())
 }
