@@ -31,6 +31,10 @@ fits_two s slip one two size mask list =
       mask = subst (λ (n : ℕ). slip.mask < 2 ^ n) (sym (stay.1 ∙ two)) (omega (arith, mask));
     }
 
+-- the boss's pass of a new queue of two consumers has the first
+pub has_zero : {C : Type 0} (load : C → Load) (lists rows n : ℕ) (start : List (Slip × C)) (build : Build) (s : Sight) → IsFresh load lists rows n start build s → n ≡ 2 → Mem 0 s.consumers
+has_zero load lists rows n start build s f two = subst (Mem 0) (sym (ap (λ (z : Sight). z.consumers) f.sight ∙ ap below two)) mem-cons_self
+
 -- the boss's pass, as its splits leave it
 pub record Leads (o : Queue) (m a n : ℕ) (cs : List ℕ) (s : Sight) : Type 0 where
   pub opening : s.opening ≡ o
