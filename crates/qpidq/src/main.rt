@@ -2,14 +2,14 @@
 //! status.
 #![tactic(auto)]
 
-ghost use Rattle.std.specs.Prelude.{◌≡◌, IfOk, vec_len};
-
 use broker_top::{Status, run_command};
-use outside_io::{FreeGate, StdSink, StdSource};
+use outside_io::{FreeGate, Sink, Source, StdSink, StdSource};
 use std::alloc::{AllocError, Global};
 use std::env::Env;
 use std::io::{BufWriter, ErrorKind, Write};
 use std::process::ExitCode;
+use std::sync::Wait;
+use std::thread::Threads;
 use std::{env, io};
 use target_core::{CONSUMERS, PlainTarget, Target};
 
@@ -39,15 +39,20 @@ fn words_of(rt: &(impl Env + AllocGlobal)) -> io::Result<Vec<String>> {
     }
 }
 
-/// A target for each consumer, which takes all that it is handed.
-fn plain_targets(alloc: Global) -> Result<Vec<Box<dyn Target>>, AllocError>
-    ensures { IfOk result (λ targets. vec_len targets ≡ 64) }
-{
+/// Does what these words ask for, with a target for each consumer that takes all that it is handed.
+fn run_words<R: Threads + Wait + Clone + Send + Sync + Drop, S: Source, K: Sink>(
+    rt: &R,
+    alloc: Global,
+    words: &[String],
+    input: &mut S,
+    out: &mut K,
+) -> Result<Status, AllocError> {
     let mut targets: Vec<Box<dyn Target>> = Vec::new(alloc);
     'consumers: for _consumer in 0..CONSUMERS {
         targets.push(Box::new(alloc, PlainTarget::make(alloc, None))?)?;
     }
-    Ok(targets)
+    let (status, _targets) = run_command(rt, alloc, words, input, out, &FreeGate, targets);
+    Ok(status)
 }
 
 /// The status that a run ends with whose output is flushed now: where that fails, the sink failed.
@@ -62,19 +67,13 @@ fn main(rt: HostRuntime) -> ExitCode {
     let Ok(words) = words_of(&rt) else {
         return ExitCode::from(Status::NoMemory.code());
     };
-    let Ok(targets) = plain_targets(rt.alloc()) else {
-        return ExitCode::from(Status::NoMemory.code());
-    };
     let Ok(mut writer) = BufWriter::new(rt.alloc(), io::writer(&rt)) else {
         return ExitCode::from(Status::NoMemory.code());
     };
     let mut input = StdSource::new(rt.reader());
     let mut out = StdSink::new(&mut writer);
-    let alloc = rt.alloc();
-    let (status, _targets) = run_command(
-        &rt, alloc, &words, &mut input, &mut out, &FreeGate, targets,
-    );
-    let status = flushed(status, &mut writer);
+    let ran = run_words(&rt, rt.alloc(), &words, &mut input, &mut out);
+    let status = flushed(ran.unwrap_or(Status::NoMemory), &mut writer);
     if status == Status::WordsRefused {
         let _ = rt.eprintln(USAGE);
     }
