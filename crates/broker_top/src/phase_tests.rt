@@ -94,65 +94,6 @@ const SCRIPTS: &[(&[&str], &str)] = &[
         "b 2 ok 1\nb 3 ok 1\nb 5 empty\na 4 got 1 1\na 6 got 1 1\na 7 acked 1\n\
          queue p 0 0\nqueue r 1 16\nentry 1 held a\n",
     ),
-    // Each line of one actor over one queue, with each of its answers.
-    (
-        &[
-            Q,
-            TAKE,
-            "{\"do\":\"ack\",\"actor\":\"a\",\"queue\":\"q\"}\n",
-            "{\"do\":\"release\",\"actor\":\"a\",\"queue\":\"q\"}\n",
-            "{\"do\":\"lock\",\"actor\":\"a\",\"queue\":\"q\"}\n",
-            "{\"do\":\"unlock\",\"actor\":\"a\",\"queue\":\"q\"}\n",
-            "{\"do\":\"steal\",\"actor\":\"a\",\"queue\":\"q\",\"id\":7}\n",
-            PUT_7,
-            "{\"do\":\"steal\",\"actor\":\"a\",\"queue\":\"q\",\"id\":7}\n",
-            TAKE,
-            "{\"do\":\"lock\",\"actor\":\"a\",\"queue\":\"q\",\"id\":7}\n",
-            "{\"do\":\"steal\",\"actor\":\"a\",\"queue\":\"q\",\"id\":7}\n",
-            "{\"do\":\"unlock\",\"actor\":\"a\",\"queue\":\"q\",\"id\":7}\n",
-            "{\"do\":\"unlock\",\"actor\":\"a\",\"queue\":\"q\",\"id\":7}\n",
-            "{\"do\":\"lock\",\"actor\":\"a\",\"queue\":\"q\",\"id\":7}\n",
-            "{\"do\":\"unlock\",\"actor\":\"a\",\"queue\":\"q\"}\n",
-            "{\"do\":\"steal\",\"actor\":\"a\",\"queue\":\"q\",\"id\":7}\n",
-            "{\"do\":\"release\",\"actor\":\"a\",\"queue\":\"q\",\"id\":7}\n",
-            TAKE,
-            "{\"do\":\"ack\",\"actor\":\"a\",\"queue\":\"q\"}\n",
-            "{\"do\":\"steal\",\"actor\":\"a\",\"queue\":\"q\",\"id\":7}\n",
-        ],
-        "a 2 empty\na 3 not-held\na 4 not-held\na 5 not-held\na 6 not-held\na 7 absent\n\
-         a 8 ok 7\na 9 not-stealable available\na 10 got 7 1\na 11 not-held\n\
-         a 12 not-stealable locked a\na 13 unlocked 7\na 14 not-held\na 15 locked 7\n\
-         a 16 unlocked 7\na 17 stole 7\na 18 released 7\na 19 got 7 2\na 20 acked 7\n\
-         a 21 absent\nqueue q 0 0\n",
-    ),
-    // Four actors over two queues.
-    (
-        &[
-            "{\"queues\":[{\"name\":\"p\",\"consumers\":[{\"name\":\"x\",\"actor\":\"b\"},{\"name\":\"y\",\"actor\":\"c\"}]},",
-            "{\"name\":\"r\",\"consumers\":[{\"name\":\"z\",\"actor\":\"d\"},{\"name\":\"w\",\"actor\":\"b\"}]}]}\n",
-            "{\"do\":\"put\",\"actor\":\"a\",\"queue\":\"p\",\"id\":1}\n",
-            "{\"do\":\"put\",\"actor\":\"c\",\"queue\":\"r\",\"id\":1}\n",
-            "{\"do\":\"put\",\"actor\":\"a\",\"queue\":\"r\",\"id\":2}\n",
-            "{\"do\":\"take\",\"actor\":\"b\",\"consumer\":\"x\"}\n",
-            "{\"do\":\"take\",\"actor\":\"d\",\"consumer\":\"z\"}\n",
-            "{\"do\":\"take\",\"actor\":\"c\",\"consumer\":\"y\"}\n",
-            "{\"do\":\"unlock\",\"actor\":\"b\",\"queue\":\"p\"}\n",
-            "{\"do\":\"steal\",\"actor\":\"c\",\"queue\":\"p\",\"id\":1}\n",
-            "{\"do\":\"ack\",\"actor\":\"b\",\"queue\":\"p\",\"id\":1}\n",
-            "{\"do\":\"ack\",\"actor\":\"c\",\"queue\":\"p\"}\n",
-            "{\"do\":\"release\",\"actor\":\"d\",\"queue\":\"r\",\"id\":1}\n",
-            "{\"do\":\"take\",\"actor\":\"b\",\"consumer\":\"w\"}\n",
-            "{\"do\":\"take\",\"actor\":\"d\",\"consumer\":\"z\"}\n",
-            "{\"do\":\"ack\",\"actor\":\"b\",\"queue\":\"r\"}\n",
-            "{\"do\":\"steal\",\"actor\":\"a\",\"queue\":\"r\",\"id\":2}\n",
-            "{\"do\":\"ack\",\"actor\":\"c\",\"queue\":\"r\"}\n",
-            "{\"do\":\"take\",\"actor\":\"d\",\"consumer\":\"z\"}\n",
-        ],
-        "a 2 ok 1\na 4 ok 2\na 16 not-stealable locked d\nc 3 ok 1\nc 7 empty\nc 9 stole 1\n\
-         c 11 acked 1\nc 17 not-held\nb 5 got 1 1\nb 8 unlocked 1\nb 10 stolen locked c\n\
-         b 13 got 1 2\nb 15 acked 1\nd 6 got 1 1\nd 12 released 1\nd 14 got 2 1\nd 18 empty\n\
-         queue p 0 0\nqueue r 1 16\nentry 2 held d\n",
-    ),
 ];
 
 const Q: &str =
