@@ -1,5 +1,5 @@
 -- how a run ends that was begun
-use Rattle.std.proofs.Common.{◌≡◌, ℕ, ◌+◌, ◌≤◌, arith, inl, inr, Option, Some, Result, Ok, Err, List, ◌++◌, codes, length, map, take, refl, sym, ap, ◌∙◌, subst}
+use Rattle.std.proofs.Common.{◌≡◌, ℕ, ◌+◌, arith, inl, inr, Option, Some, Ok, Err, List, ◌++◌, codes, length, map, take, refl, sym, ap, ◌∙◌, subst}
 use Rattle.std.proofs.lemmas.List.{length-append, take-append-le}
 use Rattle.std.proofs.Math.Seq.{take-append-add, take-length}
 use Rattle.outside_io.specs.Told.{Adds}
@@ -18,7 +18,7 @@ use Rattle.broker_top.specs.declared.phases.Stopped.TheVariants as stopped
 use Rattle.broker_top.specs.declared.status.Status.{Status}
 use Rattle.broker_top.specs.declared.status.Status.TheVariants.{Done, NoMemory, WriteFault}
 
-ran_of : (script : Script) (some : ℕ) (handed back : List Seat) (seats seats' : Seats) (text : List ℕ) → seats ≡ map Some handed → back ≡ standing seats' → RanTo script some seats seats' text → Ran script.defs (take some script.phases) handed back text
+pub ran_of : (script : Script) (some : ℕ) (handed back : List Seat) (seats seats' : Seats) (text : List ℕ) → seats ≡ map Some handed → back ≡ standing seats' → RanTo script some seats seats' text → Ran script.defs (take some script.phases) handed back text
 ran_of script some handed back seats seats' text opened closed r = record {
   accounts = r.accounts;
   seats = r.after;
@@ -44,6 +44,7 @@ module _ (result : Status) (w w' : World) (input : List ℕ) (script : Script) (
       ran = subst (λ (phases : List Actors). Ran script.defs phases w.seats w'.seats r.0) (take-length script.phases) (ran_of script (length script.phases) w.seats w'.seats seats seats' r.0 opened closed r.1);
     };
     source = kept;
+    unread = tt;
     tells = inl (is, r.3, r.2);
   }
 
@@ -63,6 +64,7 @@ module _ (result : Status) (w w' : World) (input : List ℕ) (script : Script) (
       told = refl;
     });
     source = kept;
+    unread = tt;
     tells = told tells;
   } where
     told : Tells result NoMemory fault mid w'.written faults w'.write_faults → Tells result NoMemory (r.1 ++ fault) w.written w'.written w.write_faults w'.write_faults
@@ -93,6 +95,7 @@ module _ (result : Status) (w w' : World) (input : List ℕ) (script : Script) (
       told = refl;
     });
     source = kept;
+    unread = tt;
     tells = inr (
       is,
       r.4,

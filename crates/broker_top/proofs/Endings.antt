@@ -1,46 +1,47 @@
 -- how a task ends that was not done
-use Rattle.std.proofs.Common.{◌≡◌, ℕ, inl, inr, Option, List, Result, Err, codes, refl, ap}
+use Rattle.std.proofs.Common.{◌≡◌, ℕ, inl, inr, List, Result, Err, codes, refl, ap}
 use Rattle.script_read.specs.declared.faults.LineFault.TheVariants as line
 use Rattle.script_read.specs.declared.faults.ScriptFault.{ScriptFault}
 use Rattle.broker_top.specs.declared.faults.InputFault.{InputFault}
 use Rattle.broker_top.specs.declared.faults.InputFault.TheVariants as input
 use Rattle.broker_top.specs.declared.input.Unread.{Unread}
-use Rattle.broker_top.specs.declared.input.Unread.TheVariants as unread
+use Rattle.broker_top.specs.declared.input.Unread.TheVariants as not_read
 use Rattle.broker_top.specs.declared.status.Status.{Status}
 use Rattle.broker_top.specs.declared.status.Status.TheVariants.{InputRefused, NoMemory}
-use Rattle.broker_top.specs.Ends.{Comes, IsRefused, IsShort, ReadFaults, Refuses, TaskEnds, Tells, TellsRefusal, WantsMemory}
+use Rattle.broker_top.specs.Ends.{Comes, IsRefused, IsShort, LeavesSource, ReadFaults, Refuses, TaskEnds, Tells, TellsRefusal, WantsMemory}
 use Rattle.broker_top.specs.Faults.{OfScript, fault_text, line_cause, line_text}
 use Rattle.broker_top.specs.Input.{IsTooLarge, LeavesUnread, too_large_text}
 use Rattle.broker_top.specs.Job.{GivesJob, IsRefusedFor, Script}
 use Rattle.broker_top.specs.Unread.{unread_status, unread_text}
-use Rattle.broker_top.specs.Words.{Task, run, select}
+use Rattle.broker_top.specs.Words.{Task, gen, run, select}
 use Rattle.broker_top.specs.World.{World, Unserved}
 
 -- before anything ran
 wants : (task : Task) (text : List ℕ) (w w' : World) → IsShort text w w' → WantsMemory task text w w'
 wants run text w w' short = inl short
 wants (select selector) text w w' short = short
+wants (gen number count) text w w' short = inl short
 
-module _ (task : Task) (result : Status) (w w' : World) (unserved : Unserved w w') where
+module _ (task : Task) (result : Status) (w w' : World) (unserved : Unserved w w') (unread : LeavesSource task w w') where
   pub wants_memory : w'.read_faults ≡ w.read_faults → Tells result NoMemory (codes "fault: memory\n") w.written w'.written w.write_faults w'.write_faults → TaskEnds task result w w'
-  wants_memory kept tells = record { status = NoMemory; text = codes "fault: memory\n"; comes = wants task (codes "fault: memory\n") w w' (refl, unserved); source = kept; tells = tells }
+  wants_memory kept tells = record { status = NoMemory; text = codes "fault: memory\n"; comes = wants task (codes "fault: memory\n") w w' (refl, unserved); source = kept; unread = unread; tells = tells }
 
   pub refusal : (text : List ℕ) → w'.read_faults ≡ w.read_faults → IsRefused task text w.left w'.left → Tells result InputRefused text w.written w'.written w.write_faults w'.write_faults → TaskEnds task result w w'
-  refusal text kept refused tells = record { status = InputRefused; text = text; comes = (refused, unserved); source = kept; tells = tells }
+  refusal text kept refused tells = record { status = InputRefused; text = text; comes = (refused, unserved); source = kept; unread = unread; tells = tells }
 
   unread_comes : (u : Unread) → (IsTooLarge too_large_text w.left w'.left → IsRefused task too_large_text w.left w'.left) → LeavesUnread u w.left w'.left w.read_faults w'.read_faults → Comes task (unread_status u) (unread_text u) w w'
-  unread_comes unread.TooLarge refused h = (refused (record { front = h.1.0; read = h.1.1; large = h.1.2; told = refl }), unserved)
-  unread_comes unread.Fault refused h = (refl, unserved)
-  unread_comes unread.NoMemory refused h = wants task (codes "fault: memory\n") w w' (refl, unserved)
+  unread_comes not_read.TooLarge refused h = (refused (record { front = h.1.0; read = h.1.1; large = h.1.2; told = refl }), unserved)
+  unread_comes not_read.Fault refused h = (refl, unserved)
+  unread_comes not_read.NoMemory refused h = wants task (codes "fault: memory\n") w w' (refl, unserved)
 
   unread_faults : (u : Unread) → LeavesUnread u w.left w'.left w.read_faults w'.read_faults → ReadFaults (unread_status u) w.read_faults w'.read_faults
-  unread_faults unread.TooLarge h = h.0
-  unread_faults unread.Fault h = h
-  unread_faults unread.NoMemory h = h
+  unread_faults not_read.TooLarge h = h.0
+  unread_faults not_read.Fault h = h
+  unread_faults not_read.NoMemory h = h
 
   pub unread_ends : (u : Unread) → (IsTooLarge too_large_text w.left w'.left → IsRefused task too_large_text w.left w'.left) → LeavesUnread u w.left w'.left w.read_faults w'.read_faults
       → Tells result (unread_status u) (unread_text u) w.written w'.written w.write_faults w'.write_faults → TaskEnds task result w w'
-  unread_ends u refused h tells = record { status = unread_status u; text = unread_text u; comes = unread_comes u refused h; source = unread_faults u h; tells = tells }
+  unread_ends u refused h tells = record { status = unread_status u; text = unread_text u; comes = unread_comes u refused h; source = unread_faults u h; unread = unread; tells = tells }
 
   pub refusal_ends : (text : List ℕ) → w'.read_faults ≡ w.read_faults → IsRefused task text w.left w'.left → TellsRefusal text result w.written w'.written w.write_faults w'.write_faults → TaskEnds task result w w'
   refusal_ends text kept refused (inl tells) = refusal text kept refused tells

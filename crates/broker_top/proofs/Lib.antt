@@ -10,3 +10,9 @@ pub mod Names
 pub mod OnePhases
 pub mod Stopping
 pub mod Ended
+pub mod Journals
+pub mod Numbering
+pub mod Tallying
+pub mod Counting
+pub mod Bytes
+pub mod Generating

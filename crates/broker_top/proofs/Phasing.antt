@@ -1,11 +1,10 @@
 -- phases that go on, one after the other
-use Rattle.std.proofs.Common.{◌≡◌, ℕ, suc, ◌+◌, ◌≤◌, ◌==◌, ◌&&◌, arith, Bool, true, false, not, cond, Option, Some, None, Result, Ok, Err, List, [], ◌∷◌, ◌++◌, append-nil, append_assoc, length, map, take, filter, refl, sym, ap, ap₂, ◌∙◌, subst}
+use Rattle.std.proofs.Common.{◌≡◌, ℕ, suc, ◌+◌, ◌≤◌, ◌==◌, ◌&&◌, arith, Bool, true, false, cond, Option, Some, None, List, [], ◌∷◌, ◌++◌, append-nil, append_assoc, length, map, take, filter, refl, sym, ap, ap₂, ◌∙◌, subst}
 use Rattle.std.specs.List.{All, AllByRecursion, count_by, list_all}
 use Rattle.std.proofs.lemmas.List.Folds.{list_all-append}
 use Rattle.std.proofs.lemmas.List.Sums.{sum_by-append, sum_by-cons}
 use Rattle.std.proofs.Math.Seq.{take-append_seam}
 use Rattle.queue_model.specs.declared.rows.Row.{Row}
-use Rattle.queue_model.specs.Table.{most_entries}
 use Rattle.any_queue.specs.Parting.{IsOfLists}
 use Rattle.defs_read.specs.Allowed.{HasPriorities, IsAllowed}
 use Rattle.defs_read.specs.Defined.{Defined}
@@ -28,14 +27,14 @@ use Rattle.account_core.specs.Counting.{puts_among, puts_on}
 use Rattle.account_core.specs.Phases.{ArePhases, IsPhase, nothing, rows_after}
 use Rattle.account_core.specs.Texts.{account_text, run_text}
 use Rattle.account_core.proofs.Following.{phases_append, text_append}
-use Rattle.phase_queues.specs.Left.{AllMayStay, ids_left, many_left, rows_left}
+use Rattle.phase_queues.specs.Left.{AllMayStay, rows_left}
 use Rattle.phase_core.specs.Phased.{FewEntries, IdsOnce, Lefts}
 use Rattle.phase_actors.specs.Cast.{HasServedOps}
 use Rattle.broker_top.specs.Built.{is_built_kind, is_built_line, is_built_policy, is_built_queue}
 use Rattle.broker_top.specs.Job.{IsRunnable, Script}
 use Rattle.broker_top.specs.OnePhase.{IsEmpty, Leaves, MayPlay}
 use Rattle.broker_top.specs.Phases.{RanTo}
-use Rattle.broker_top.specs.Puts.{all_puts, is_put, put_lines}
+use Rattle.broker_top.specs.Puts.{all_puts, is_put}
 use Rattle.broker_top.proofs.Both.{both_first, both_second}
 
 -- What is built
@@ -176,6 +175,10 @@ begins script seats w lefts runs empty = record {
   told = adds_none w;
 }
 
+pub begins_accounts : (script : Script) (seats : Seats) (w : Option (List ℕ)) (lefts : Lefts) (runs : IsRunnable script) (empty : IsEmpty script.defs lefts) → (begins script seats w lefts runs empty).accounts ≡ []
+unfolding begins
+begins_accounts script seats w lefts runs empty = refl
+
 module _ (script : Script) (seats mid : Seats) (w w1 : Option (List ℕ)) (lefts : Lefts) (p : Actors) (rest : List Actors) (g : GoesOn script seats mid w w1 lefts (p ∷ rest)) where
   pub may_play : IsRunnable script → MayPlay script.defs lefts p
   may_play runs = record {
@@ -210,6 +213,10 @@ module _ (script : Script) (seats mid : Seats) (w w1 : Option (List ℕ)) (lefts
     few = λ q. (let all = count_append (λ op. puts_to q op.what) (ops_in p) (all_ops rest) in omega (arith, all, leaves.gains.many q, g.few q));
     told = subst (Adds w w2) (sym (text_append script.defs g.accounts account)) (adds_then w w1 w2 (run_text script.defs g.accounts) (account_text script.defs account) g.told adds);
   }
+
+  pub goes_on_accounts : (seats' : Seats) (w2 : Option (List ℕ)) (lefts' : Lefts) (account : Account) (leaves : Leaves script.defs lefts p mid seats' account lefts') (adds : Adds w1 w2 (account_text script.defs account)) → (goes_on seats' w2 lefts' account leaves adds).accounts ≡ g.accounts ++ account ∷ []
+  unfolding goes_on
+  goes_on_accounts seats' w2 lefts' account leaves adds = refl
 
   -- the phases in front, and this one
   pub ran_with : (seats' : Seats) (account : Account) → IsPhase script.defs (rows_left lefts) p account mid seats' → RanTo script (length (g.done ++ p ∷ [])) seats seats' (run_text script.defs g.accounts ++ account_text script.defs account)

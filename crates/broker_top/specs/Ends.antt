@@ -1,16 +1,17 @@
 -- which status a call ends with, and what it writes
-use Rattle.std.specs.Prelude.{◌≡◌, ℕ, ◌+◌, ◌≤◌, ◌⊎◌, Option, Some, None, List, ◌++◌, length, take, codes, Ok, Err}
+use Rattle.std.specs.Prelude.{◌≡◌, ℕ, ◌+◌, ◌≤◌, ◌⊎◌, Option, Some, None, List, ◌++◌, length, take, codes, Ok}
 use Rattle.outside_io.specs.Told.{Adds}
 use Rattle.account_core.specs.Runs.{Ran}
 use Rattle.broker_top.specs.declared.status.Status.{Status}
-use Rattle.broker_top.specs.declared.status.Status.TheVariants.{Done, InputRefused, WordsRefused, ReadFault, WriteFault, NoMemory}
+use Rattle.broker_top.specs.declared.status.Status.TheVariants.{Done, InputRefused, WordsRefused, ReadFault, WriteFault, DeviceFault, NoMemory, JournalRefused}
 use Rattle.broker_top.specs.declared.faults.InputFault.{InputFault}
 use Rattle.broker_top.specs.declared.faults.InputFault.TheVariants as input
 use Rattle.broker_top.specs.Faults.{fault_text}
 use Rattle.broker_top.specs.Input.{IsTooLarge, IsWhole}
 use Rattle.broker_top.specs.Job.{IsRefusedFor, IsRunnable, Script, input_says}
 use Rattle.broker_top.specs.Select.{IsInputRefused, IsSelected, IsSelectorRefused}
-use Rattle.broker_top.specs.Words.{Task, run, select}
+use Rattle.broker_top.specs.Generated.{IsSummed, IsUnsummed}
+use Rattle.broker_top.specs.Words.{Task, gen, run, select}
 use Rattle.broker_top.specs.World.{World, Unserved}
 
 -- Runs
@@ -52,11 +53,13 @@ pub record IsLineRefused (text : List ℕ) (left left' : Option (List ℕ)) : Ty
 abbrev pub IsDone : Task → List ℕ → World → World → Type 0
 IsDone run text w w' = IsRun text w w'
 IsDone (select selector) text w w' = IsSelected selector text w.left w'.left × Unserved w w'
+IsDone (gen number count) text w w' = IsSummed number count text w.seats w'.seats
 
 -- the task's input is refused, by what was read, and this text tells of it
 abbrev pub IsRefused : Task → List ℕ → Option (List ℕ) → Option (List ℕ) → Type 0
 IsRefused run text left left' = IsTooLarge text left left' ⊎ IsLineRefused text left left'
 IsRefused (select selector) text left left' = IsSelectorRefused selector text left left' ⊎ IsInputRefused selector text left left'
+IsRefused (gen number count) text left left' = ⊥
 
 -- want of memory, before anything ran
 abbrev pub IsShort : List ℕ → World → World → Type 0
@@ -66,6 +69,7 @@ IsShort text w w' = (text ≡ codes "fault: memory\n") × Unserved w w'
 abbrev pub WantsMemory : Task → List ℕ → World → World → Type 0
 WantsMemory run text w w' = IsShort text w w' ⊎ IsCut (codes "fault: memory\n") text w w'
 WantsMemory (select selector) text w w' = IsShort text w w'
+WantsMemory (gen number count) text w w' = IsShort text w w' ⊎ IsUnsummed number count text w.seats w'.seats
 
 -- when a status comes of a task, and the text that goes with it
 abbrev pub Comes : Task → Status → List ℕ → World → World → Type 0
@@ -75,6 +79,8 @@ Comes task WordsRefused text w w' = ⊥
 Comes task ReadFault text w w' = (text ≡ codes "fault: read\n") × Unserved w w'
 Comes task NoMemory text w w' = WantsMemory task text w w'
 Comes task WriteFault text w w' = ⊥
+Comes task DeviceFault text w w' = ⊥
+Comes task JournalRefused text w w' = ⊥
 
 -- the source's count of faults rose, and by one, exactly where the status tells of it
 abbrev pub ReadFaults : Status → ℕ → ℕ → Type 0
@@ -84,6 +90,8 @@ ReadFaults InputRefused faults faults' = faults' ≡ faults
 ReadFaults WordsRefused faults faults' = faults' ≡ faults
 ReadFaults NoMemory faults faults' = faults' ≡ faults
 ReadFaults WriteFault faults faults' = faults' ≡ faults
+ReadFaults DeviceFault faults faults' = faults' ≡ faults
+ReadFaults JournalRefused faults faults' = faults' ≡ faults
 
 -- The status's text was written, and the sink didn't fail. Or it failed once, and some front of the text that goes with another status was written.
 abbrev pub Tells : Status → Status → List ℕ → Option (List ℕ) → Option (List ℕ) → ℕ → ℕ → Type 0
@@ -100,12 +108,19 @@ abbrev pub Refuses : InputFault → Status → Option (List ℕ) → Option (Lis
 Refuses fault result written written' faults faults' =
     ((fault ≡ input.NoMemory → ⊥) × Tells result InputRefused (fault_text fault) written written' faults faults') ⊎ Tells result NoMemory (codes "fault: memory\n") written written' faults faults'
 
+-- a task that has no input leaves the source as it was
+abbrev pub LeavesSource : Task → World → World → Type 0
+LeavesSource run w w' = Unit {0}
+LeavesSource (select selector) w w' = Unit {0}
+LeavesSource (gen number count) w w' = (w'.left ≡ w.left) × (w'.read_faults ≡ w.read_faults)
+
 -- how a task ends that was asked for
 pub record TaskEnds (task : Task) (result : Status) (w w' : World) : Type 0 where
   pub status : Status
   pub text : List ℕ
   pub comes : Comes task status text w w'
   pub source : ReadFaults status w.read_faults w'.read_faults
+  pub unread : LeavesSource task w w'
   pub tells : Tells result status text w.written w'.written w.write_faults w'.write_faults
 
 -- where no task was asked for, the words are refused: nothing was read, and no target was served

@@ -3,6 +3,7 @@ ghost use Rattle.std.specs.Prelude.{◌≡◌, ◌<◌, ◌≤◌, IfOk, vec_len
 
 use crate::{Status, run_command};
 use byte_lists::Bytes;
+use disk_core::MemoryDisk;
 use outside_io::{FreeGate, Gate, LineGate, MemorySink, MemorySource};
 use std::alloc::Global;
 use std::process::Abort;
@@ -12,7 +13,7 @@ use std::thread::Threads;
 use target_core::{CONSUMERS, MeetTarget, PlainTarget, Target};
 
 // How often a line looks whether it is its turn.
-const TURNS: u64 = 10_000_000;
+pub(crate) const TURNS: u64 = 10_000_000;
 
 // A script whose lines come in order, and what is written of it.
 const SCRIPTS: &[(&[&str], &str)] = &[
@@ -110,7 +111,7 @@ const CLOSE: &str = "{\"do\":\"close\",\"actor\":\"a\",\"consumer\":\"c\"}\n";
 const REST: &str = "{\"do\":\"rest\"}\n";
 
 // A target for each consumer, of which consumer 0's takes so many deliveries at most.
-fn targets(alloc: Global, limit: Option<u64>) -> Result<Vec<Box<dyn Target>>, Fail>
+pub(crate) fn targets(alloc: Global, limit: Option<u64>) -> Result<Vec<Box<dyn Target>>, Fail>
     ensures { IfOk result (λ targets. vec_len targets ≡ 64) }
 {
     let mut targets: Vec<Box<dyn Target>> = Vec::new(alloc);
@@ -122,7 +123,7 @@ fn targets(alloc: Global, limit: Option<u64>) -> Result<Vec<Box<dyn Target>>, Fa
 }
 
 // Runs the texts one after the other; compares what is written and how many targets come back.
-fn check<R: Abort + AllocGlobal + Threads + Wait + Clone + Send + Sync + Drop, G: Gate>(
+pub(crate) fn check<R: Abort + AllocGlobal + Threads + Wait + Clone + Send + Sync + Drop, G: Gate>(
     rt: &R,
     gate: &G,
     parts: &[&str],
@@ -141,7 +142,17 @@ fn check<R: Abort + AllocGlobal + Threads + Wait + Clone + Send + Sync + Drop, G
     }
     let mut source = MemorySource::of(Bytes::from_vec(input), Vec::new(alloc));
     let mut sink = MemorySink::of(alloc, 1000, Vec::new(alloc))?;
-    let (status, left) = run_command(rt, alloc, &words, &mut source, &mut sink, gate, targets);
+    let disk = MemoryDisk::of(alloc, Bytes::of(alloc, b"")?, 0, 0, Vec::new(alloc))?;
+    let (status, _disk, left) = run_command(
+        rt,
+        alloc,
+        &words,
+        &mut source,
+        &mut sink,
+        disk,
+        gate,
+        targets,
+    );
     assert_eq!(rt; sink.bytes(), text.as_bytes());
     assert_eq!(rt; status, Status::Done);
     assert_eq!(rt; left.len(), back);

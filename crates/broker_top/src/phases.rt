@@ -71,7 +71,7 @@ fn actor_names(alloc: Global, phase: &Phase) -> Result<Vec<Bytes>, NoMemory>
 }
 
 /// A list of no entries for each queue.
-fn none_left(alloc: Global, defs: &Defs) -> Result<Vec<Vec<RestEntry<Parcel>>>, NoMemory>
+pub(crate) fn none_left(alloc: Global, defs: &Defs) -> Result<Vec<Vec<RestEntry<Parcel>>>, NoMemory>
     ensures { IfOk result (λ left. IsEmpty (queues_in defs.now) left.items) }
 {
     let Ok(mut left) = Vec::with_capacity(alloc, defs.queues.len()) else {

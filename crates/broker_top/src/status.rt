@@ -15,8 +15,12 @@ pub enum Status {
     ReadFault,
     /// The sink failed.
     WriteFault,
+    /// The disk failed.
+    DeviceFault,
     /// Memory ran out.
     NoMemory,
+    /// The disk has no journal, or a damaged one, or bytes where one was to be made.
+    JournalRefused,
 }
 
 impl Status {
@@ -30,7 +34,9 @@ impl Status {
             Status::WordsRefused => 2,
             Status::ReadFault => 3,
             Status::WriteFault => 4,
+            Status::DeviceFault => 5,
             Status::NoMemory => 6,
+            Status::JournalRefused => 7,
         }
     }
 }

@@ -3,6 +3,7 @@ ghost use Rattle.std.specs.Prelude.{◌≡◌, IfOk, vec_len};
 
 use crate::{INPUT_LIMIT, InputFault, Status, run_command, select_command};
 use byte_lists::Bytes;
+use disk_core::MemoryDisk;
 use outside_io::{FreeGate, MemorySink, MemorySource};
 use std::alloc::{AllocError, Global};
 use std::process::Abort;
@@ -237,13 +238,13 @@ fn targets(alloc: Global) -> Result<Vec<Box<dyn Target>>, AllocError>
 
 // The call of a test.
 #[derive(Clone, Copy)]
-enum Call {
+pub(crate) enum Call {
     Run,
     Select,
 }
 
 // Calls with the words over the input, with calls that fail and room for the output; compares the end.
-fn check<R: Abort + AllocGlobal + Threads + Wait + Clone + Send + Sync + Drop>(
+pub(crate) fn check<R: Abort + AllocGlobal + Threads + Wait + Clone + Send + Sync + Drop>(
     rt: &R,
     call: Call,
     words: &[&str],
@@ -264,12 +265,14 @@ fn check<R: Abort + AllocGlobal + Threads + Wait + Clone + Send + Sync + Drop>(
     let status = match call {
         Call::Run => {
             let targets = targets(alloc)?;
+            let disk = MemoryDisk::of(alloc, Bytes::of(alloc, b"")?, 16, 17, Vec::new(alloc))?;
             let ended = run_command(
                 rt,
                 alloc,
                 &given,
                 &mut source,
                 &mut sink,
+                disk,
                 &FreeGate,
                 targets,
             );
@@ -430,6 +433,24 @@ const FAULTS: &[(Call, &[&str], &[u64], &[u64], u64, Status, &str)] = &[
         1000,
         Status::WordsRefused,
         "fault: words\n",
+    ),
+    (
+        Call::Run,
+        &["init", "a"],
+        &[0],
+        &[],
+        1000,
+        Status::Done,
+        "created\n",
+    ),
+    (
+        Call::Run,
+        &["recover", "a"],
+        &[0],
+        &[],
+        1000,
+        Status::JournalRefused,
+        "fault: journal at 0\n",
     ),
     (
         Call::Run,

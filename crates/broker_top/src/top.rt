@@ -1,17 +1,25 @@
 //! The top calls.
 ghost use Rattle.std.specs.Prelude.{◌≡◌, [], map, string_bytes, vec_len};
+ghost use Rattle.broker_top.specs.Commands.{CommandEnds};
+ghost use Rattle.broker_top.specs.Disks.{medium};
 ghost use Rattle.broker_top.specs.Ends.{Ends, TaskEnds};
+ghost use Rattle.broker_top.specs.JournalWords.{asked_journal};
 ghost use Rattle.broker_top.specs.Words.{asked, run, selecting};
 ghost use Rattle.broker_top.specs.World.{world};
 
+use crate::generated::run_generated;
+use crate::initialize::initialize;
 use crate::input::read_input;
 use crate::job::read_job;
+use crate::journal_words::{is_init, is_recover};
 use crate::phases::{Stopped, run_phases};
+use crate::recovering::tell_journal;
 use crate::select::select_messages;
 use crate::status::Status;
 use crate::telling::{refuse, refuse_words, tell_no_memory, tell_unread};
 use crate::words::{Asked, is_listed, is_select, read_words};
 use byte_lists::NoMemory;
+use disk_core::Disk;
 use outside_io::{Gate, Sink, Source};
 use std::alloc::Global;
 use std::sync::Wait;
@@ -52,18 +60,8 @@ fn run_script<R: Threads + Wait + Clone + Send + Sync + Drop, S: Source, K: Sink
     (status, roster.finish())
 }
 
-/// Does all that the program does for these words of its command line: for `run` it reads the whole input, tests every
-/// line, and runs the phases of the script, whose actors are threads of `rt` that run beside each other and pass the
-/// gate before and after each line. It writes the text of each phase as the phase ends, or a fault line. For `select`
-/// and a text it does what [`select_command`] does.
-///
-/// Asks for 64 targets: that of each consumer, by its number over all queues. Those that no line closed come back, in
-/// their order, each with what it was handed.
-///
-/// docs/SCRIPT.md, "Statuses", says when each status comes. The input has at most [`INPUT_LIMIT`] bytes.
-///
-/// [`INPUT_LIMIT`]: crate::INPUT_LIMIT
-pub fn run_command<R: Threads + Wait + Clone + Send + Sync + Drop, S: Source, K: Sink, G: Gate>(
+/// Does what these words ask for that has nothing to do with a journal.
+fn run_or_select<R: Threads + Wait + Clone + Send + Sync + Drop, S: Source, K: Sink, G: Gate>(
     rt: &R,
     alloc: Global,
     words: &[String],
@@ -85,8 +83,65 @@ pub fn run_command<R: Threads + Wait + Clone + Send + Sync + Drop, S: Source, K:
     match read_words(alloc, words) {
         Ok(Asked::Run) => run_script(rt, alloc, input, out, gate, targets),
         Ok(Asked::Select(text)) => (select_messages(alloc, text, input, out), targets),
+        Ok(Asked::Generate { number, count }) => {
+            run_generated(rt, alloc, number, count, out, gate, targets)
+        }
         Err(NoMemory) => (tell_no_memory(out), targets),
     }
+}
+
+/// Does all that the program does for these words of its command line: for `run` it reads the whole input, tests every
+/// line, and runs the phases of the script, whose actors are threads of `rt` that run beside each other and pass the
+/// gate before and after each line. It writes the text of each phase as the phase ends, or a fault line. For `select`
+/// and a text it does what [`select_command`] does. For `gen`, a number and a count it runs the script that the number
+/// makes for so many messages, in the same way, reads nothing, and writes one line that tells of the run. For `init` and
+/// a path it does what [`init_command`] does with this disk, and for `recover` and a path what [`recover_command`] does.
+/// Gives the disk back; the other commands don't touch it.
+///
+/// Asks for 64 targets: that of each consumer, by its number over all queues. Those that no line closed come back, in
+/// their order, each with what it was handed.
+///
+/// docs/SCRIPT.md, "Statuses", says when each status comes. The input has at most [`INPUT_LIMIT`] bytes.
+///
+/// [`INPUT_LIMIT`]: crate::INPUT_LIMIT
+/// [`init_command`]: crate::init_command
+/// [`recover_command`]: crate::recover_command
+pub fn run_command<
+    R: Threads + Wait + Clone + Send + Sync + Drop,
+    S: Source,
+    K: Sink,
+    D: Disk,
+    G: Gate,
+>(
+    rt: &R,
+    alloc: Global,
+    words: &[String],
+    input: &mut S,
+    out: &mut K,
+    disk: D,
+    gate: &G,
+    targets: Vec<Box<dyn Target>>,
+) -> (Status, D, Vec<Box<dyn Target>>)
+    requires targets { vec_len targets ≡ 64 }
+    ensures { CommandEnds (asked_journal (map string_bytes words.now)) (asked (map string_bytes words.now))
+        result.0
+        (world S.left S.faults K.written K.faults input.old out.old
+        (map seat targets.items))
+        (world S.left S.faults K.written K.faults input.new out.new
+        (map seat result.2.items))
+        (medium D.seen D.images D.moment D.since D.trail D.faults D.syncs disk)
+        (medium D.seen D.images D.moment D.since D.trail D.faults D.syncs result.1) }
+{
+    if is_init(words) {
+        let (status, disk) = initialize(alloc, out, disk);
+        return (status, disk, targets);
+    }
+    if is_recover(words) {
+        let (status, disk) = tell_journal(alloc, out, disk);
+        return (status, disk, targets);
+    }
+    let (status, targets) = run_or_select(rt, alloc, words, input, out, gate, targets);
+    (status, disk, targets)
 }
 
 /// Tells of messages what a selector is, for the words `select` and the selector's text: it tests the text, reads the
@@ -112,7 +167,7 @@ pub fn select_command<S: Source, K: Sink>(
     }
     match read_words(alloc, words) {
         Ok(Asked::Select(text)) => select_messages(alloc, text, input, out),
-        Ok(Asked::Run) => unreachable!(),
+        Ok(Asked::Run) | Ok(Asked::Generate { .. }) => unreachable!(),
         Err(NoMemory) => tell_no_memory(out),
     }
 }

@@ -3,6 +3,7 @@ use Rattle.std.proofs.Common.{◌≡◌, ◌≢◌, ◌≤◌, ◌<◌, ℕ, zer
 use Rattle.std.specs.Prelude.{Option, Some, None, IfSome, true, false}
 use Rattle.std.specs.List.{AllByRecursion, flat_map}
 use Rattle.std.proofs.lemmas.List.Elements.{recursion_from_All}
+use Rattle.outside_io.specs.Told.{WhileTold}
 use Rattle.disk_core.specs.declared.trails.Trail.{Trail}
 use Rattle.journal_format.specs.Spelling.{Txn, batch_bytes, IsBatch}
 use Rattle.journal_format.specs.Journal.{header, open_bytes, all_txns, IsJournal}
@@ -19,7 +20,7 @@ use Rattle.journal_core.proofs.Committing.{begins}
 use Rattle.disk_core.specs.Images.{IsTold}
 use Rattle.commit_table.specs.Commits.{and_behind, txns_from, commits_of, commits_in}
 use Rattle.commit_table.specs.Passes.{begun_of}
-use Rattle.commit_table.specs.Tale.{Carries}
+use Rattle.commit_table.specs.Tale.{IsFront, Carries}
 
 -- ---- the commits of a journal are those that its bytes tell
 
@@ -87,6 +88,10 @@ no_outcomes : (told : Option (List ℕ)) → IfSome told (λ x. Unit {0})
 no_outcomes None = tt
 no_outcomes (Some x) = tt
 
+front_first : (told : Option (List ℕ)) (gate : ℕ) → WhileTold told told (IsFront gate gate)
+front_first None gate = tt
+front_first (Some x) gate = (omega arith, refl)
+
 module _ {D : Type 0} (seen : D → Option (List ℕ)) (images : D → List ℕ → Type 0) (moment : D → ℕ) (since : D → ℕ → List ℕ → Type 0) (trail : D → Option Trail) (faults syncs : D → ℕ)
     (only_now : (d : D) (c : List ℕ) → since d (moment d) c → images d c) (from_later : (d : D) (t u : ℕ) (c : List ℕ) → t ≤ u → since d u c → since d t c) where
   -- nothing has happened yet
@@ -108,6 +113,7 @@ module _ {D : Type 0} (seen : D → Option (List ℕ)) (images : D → List ℕ 
         settled = refl;
         clean = (λ is. refl, λ is. clean);
         gate = refl;
+        front = front_first (seen j.disk) j.gate;
         given = no_outcomes (seen j.disk);
         syncs_are = omega arith;
         faults_are = omega arith;

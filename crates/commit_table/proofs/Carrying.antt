@@ -2,9 +2,10 @@
 use Rattle.std.proofs.Common.{◌≡◌, ◌≤◌, ◌<◌, ◌+◌, ◌-◌, ◌^◌, ℕ, List, [], ◌∷◌, ◌++◌, length, take, drop, refl, sym, ap, ◌∙◌, subst, arith, append-nil, append_assoc}
 use Rattle.std.specs.Prelude.{Option, Some, None, IfSome, Bool, true, false, not, sum_by, min, Result, Ok, Err, OnOk, OnErr, is_ok}
 use Rattle.std.specs.List.{AllByRecursion, flat_map}
+use Rattle.std.proofs.lemmas.List.{take-take}
 use Rattle.std.proofs.lemmas.List.Sums.{sum_by-append, sum_by-cons}
 use Rattle.outside_io.specs.Counts.{last_count}
-use Rattle.outside_io.specs.Told.{HasCause}
+use Rattle.outside_io.specs.Told.{HasCause, WhileTold}
 use Rattle.disk_core.specs.declared.trails.Trail.{Trail}
 use Rattle.disk_core.specs.Trails.{Extends}
 use Rattle.disk_core.specs.Images.{Still}
@@ -24,7 +25,7 @@ use Rattle.journal_core.proofs.Moments.{over_start, extends_then}
 use Rattle.journal_core.proofs.Committing.{quiet}
 use Rattle.commit_table.specs.declared.begun.Begun.{Begun}
 use Rattle.commit_table.specs.Outcomes.{Outcome, Book, book, noted_all, capped, stored_from, one_ticket, syncs_of, faults_of, failed_after, Legal, LegalFrom}
-use Rattle.commit_table.specs.Tale.{IsGiven, Carries}
+use Rattle.commit_table.specs.Tale.{IsFront, IsGiven, Carries}
 use Rattle.commit_table.specs.declared.answers.Settled.{Settled}
 use Rattle.commit_table.specs.declared.desk.Desk.{Desk}
 use Rattle.commit_table.specs.Deskwork.{settlement}
@@ -124,6 +125,21 @@ not_back ok None gate gate2 n is stays small = tt
 not_back true (Some y) gate gate2 n is stays small = let e = is refl in omega (arith, e, small)
 not_back false (Some y) gate gate2 n is stays small = let e = stays refl in omega (arith, e)
 
+-- what was before the first gate stays, where what is before a later gate stays
+front_stays : (began gate gate2 : ℕ) (first old new : Option (List ℕ)) → WhileTold first old (IsFront began gate) → KeepsFront gate old new → IfSome new (λ y. gate ≤ gate2) → WhileTold first new (IsFront began gate2)
+front_stays began gate gate2 first old None is keeps le = tt
+front_stays began gate gate2 first None (Some y) is keeps le = absurd keeps
+front_stays began gate gate2 None (Some x) (Some y) is keeps le = absurd is
+front_stays began gate gate2 (Some z) (Some x) (Some y) is keeps le =
+    (omega (arith, is.0, le), sym (take-take began gate y is.0) ∙ (ap (take began) keeps ∙ (take-take began gate x is.0 ∙ is.1)))
+
+-- where a read gives what it gave, that goes for what was before the first gate
+front_same : (began gate gate2 : ℕ) (first old new : Option (List ℕ)) → gate ≡ gate2 → WhileTold first old (IsFront began gate) → Still old new → WhileTold first new (IsFront began gate2)
+front_same began gate gate2 first old None same is still = tt
+front_same began gate gate2 first None (Some y) same is still = absurd still
+front_same began gate gate2 None (Some x) (Some y) same is still = absurd is
+front_same began gate gate2 (Some z) (Some x) (Some y) same is still = subst (λ (p : ℕ × List ℕ). IsFront began p.0 z p.1) (λ i. (same i, sym still i)) is
+
 module _ {D : Type 0} (seen : D → Option (List ℕ)) (images : D → List ℕ → Type 0) (moment : D → ℕ) (since : D → ℕ → List ℕ → Type 0) (trail : D → Option Trail) (faults syncs : D → ℕ) where
   -- what the journal's own commit says of its answer
   pub record Answered (ok : Bool) (t : Txn) (old new : JournalView D) : Type 0 where
@@ -158,6 +174,7 @@ module _ {D : Type 0} (seen : D → Option (List ℕ)) (images : D → List ℕ 
         settled = idle_commit J h t ok m s f c.settled;
         clean = clean_now ok new.trust (failed_after false (J ++ es)) (failed_now J h t ok m s f) a.good a.bad;
         gate = gate_now ok old.gate new.gate k t c.gate a.gate a.stays ∙ ap (λ (x : Book). x.gate) (sym now);
+        front = front_stays b.gate old.gate new.gate b.bytes (seen old.disk) (seen new.disk) c.front a.front (not_back ok (seen new.disk) old.gate new.gate _ a.gate a.stays small);
         given = subst (λ (x : Book). IfSome (seen new.disk) (λ y. AllByRecursion (IsGiven new.gate y) x.outcomes)) (sym now) (given_now ok (seen new.disk) old.gate new.gate k t (sym c.gate) a.gate a.gives small kept_front);
         syncs_are = let r = c.syncs_are in let l = a.syncs_rise in omega (arith, r, l, sum_by-append syncs_of J es, sum_by-cons syncs_of (Sub h t) (Settle 1 ok m s f ∷ []), sum_by-cons syncs_of (Settle 1 ok m s f) []);
         faults_are = let r = c.faults_are in let l = a.faults_rise in omega (arith, r, l, sum_by-append faults_of J es, sum_by-cons faults_of (Sub h t) (Settle 1 ok m s f ∷ []), sum_by-cons faults_of (Settle 1 ok m s f) []);
@@ -178,6 +195,7 @@ module _ {D : Type 0} (seen : D → Option (List ℕ)) (images : D → List ℕ 
         settled = c.settled;
         clean = subst (λ (t : Trust). (t ≡ Clean → failed_after false J ≡ false) × (failed_after false J ≡ false → t ≡ Clean)) (sym same.1) c.clean;
         gate = same.0 ∙ c.gate;
+        front = front_same b.gate old.gate new.gate b.bytes (seen old.disk) (seen new.disk) (sym same.0) c.front reads.still;
         given = given_same (seen old.disk) (seen new.disk) old.gate new.gate (book b.gate J).outcomes (sym same.0) reads.still c.given;
         syncs_are = reads.same_syncs ∙ c.syncs_are;
         faults_are = cause.kept ∙ c.faults_are;
@@ -196,10 +214,16 @@ module _ {D : Type 0} (seen : D → Option (List ℕ)) (images : D → List ℕ 
         settled = ap (λ (l : Ledger). l.waiting) (from_append empty J es) ∙ c.settled;
         clean = subst (λ (z : Trust × Bool). (z.0 ≡ Clean → z.1 ≡ false) × (z.1 ≡ false → z.0 ≡ Clean)) (λ i. (sym same.1 i, sym failed i)) c.clean;
         gate = same.0 ∙ (c.gate ∙ ap (λ (x : Book). x.gate) (sym now));
+        front = front_same b.gate old.gate new.gate b.bytes (seen old.disk) (seen new.disk) (sym same.0) c.front reads.still;
         given = subst (λ (x : Book). IfSome (seen new.disk) (λ y. AllByRecursion (IsGiven new.gate y) x.outcomes)) (sym now) (given_same (seen old.disk) (seen new.disk) old.gate new.gate (book b.gate J).outcomes (sym same.0) reads.still c.given);
         syncs_are = let r = c.syncs_are in let e = reads.same_syncs in omega (arith, r, e, sum_by-append syncs_of J es, sum_by-cons syncs_of (Lost h f) []);
         faults_are = let r = c.faults_are in let l = cause.failed in omega (arith, r, l, sum_by-append faults_of J es, sum_by-cons faults_of (Lost h f) []);
       }
+
+-- a read makes no ticket
+pub no_tickets : {T E : Type 0} (h : ℕ) (r : Result T E) (f : ℕ) → sum_by one_ticket (read_events h r f) ≡ 0
+no_tickets h (Ok x) f = refl
+no_tickets h (Err e) f = sum_by-cons one_ticket (Lost h f) []
 
 -- the event of a read is legal where it has a fault
 pub legal_read : {T E : Type 0} (gate : ℕ) (J : List Event) (h : ℕ) (r : Result T E) (before now : ℕ) → (after J).waiting ≡ [] → HasCause before now r → Legal J → Legal (J ++ read_events h r (now - before))
@@ -307,7 +331,3 @@ module _ {D : Type 0} (seen : D → Option (List ℕ)) (images : D → List ℕ 
           few = at.few;
         },
       )
-    where
-      no_tickets : (h : ℕ) (r : Result Unit DeviceFault) (f : ℕ) → sum_by one_ticket (read_events h r f) ≡ 0
-      no_tickets h (Ok x) f = refl
-      no_tickets h (Err e) f = sum_by-cons one_ticket (Lost h f) []

@@ -27,7 +27,7 @@ use Rattle.commit_table.proofs.Books.{other_sub, other_lost}
 use Rattle.commit_table.specs.Passes.{begun_in, rest_of}
 use Rattle.history_lock.specs.Views.{Has}
 use Rattle.history_lock.proofs.Prefixes.{prefix_self, prefix_trans}
-use Rattle.commit_table.proofs.Carrying.{book_commit, counted}
+use Rattle.commit_table.proofs.Carrying.{book_commit, counted, no_tickets}
 
 -- ---- outcomes
 
@@ -119,6 +119,13 @@ module _ {D : Type 0} (seen : D → Option (List ℕ)) (images : D → List ℕ 
         legal = wrote.legal;
         answered = wrote.answered;
         share = omega (arith, same, left, share);
+        within = (
+            let es = commit_events h t (is_stored settled) wrote.moment_then wrote.rise_of_syncs wrote.rise_of_faults in
+            let saw : sum_by one_ticket u.seen ≡ sum_by one_ticket (w.seen ++ es) = ap (λ (x : View Begun Event). sum_by one_ticket x.seen) wrote.gave in
+            let most : (begun_in u).tickets ≡ (begun_in v).tickets = ap (λ (x : View Begun Event). (begun_in x).tickets) wrote.gave ∙ ap (λ (x : View Begun Event). (begun_in x).tickets) took.view in
+            let shared = took.shared in
+            omega (arith, same, left, share, saw, most, shared, sum_by-append one_ticket w.seen es, sum_by-cons one_ticket (Sub h t) (Settle 1 (is_stored settled) wrote.moment_then wrote.rise_of_syncs wrote.rise_of_faults ∷ []), sum_by-cons one_ticket (Settle 1 (is_stored settled) wrote.moment_then wrote.rise_of_syncs wrote.rise_of_faults) [])
+            );
         view = turned v w u _ (w.share - 1) idle took.view wrote.gave;
       }
 
@@ -132,12 +139,20 @@ module _ {D : Type 0} (seen : D → Option (List ℕ)) (images : D → List ℕ 
         rise_of_faults = told.rise_of_faults;
         adds = ap (λ (x : View Begun Event). x.seen) told.gave;
         legal = told.legal;
+        within = (
+            let es = read_events h r told.rise_of_faults in
+            let left : u.share ≡ w.share = ap (λ (x : View Begun Event). x.share) told.gave in
+            let saw : sum_by one_ticket u.seen ≡ sum_by one_ticket (w.seen ++ es) = ap (λ (x : View Begun Event). sum_by one_ticket x.seen) told.gave in
+            let most : (begun_in u).tickets ≡ (begun_in v).tickets = ap (λ (x : View Begun Event). (begun_in x).tickets) told.gave ∙ ap (λ (x : View Begun Event). (begun_in x).tickets) took.view in
+            let shared = took.shared in
+            omega (arith, same, left, saw, most, shared, sum_by-append one_ticket w.seen es, no_tickets h r told.rise_of_faults)
+            );
         read = subst (λ (b : Begun). OnOk r (IsRead seen images moment since trail faults syncs b w.seen at len bytes)) (ap begun_in took.view) read;
         view = turned v w u _ w.share idle took.view told.gave ∙ ap (λ (s : ℕ). record v { share = s; turns = v.turns + 1; told = []; seen = u.seen }) (ap (λ (x : View Begun Event). x.share) told.gave ∙ same);
       }
 
-  pub did_look : (b : Begun) (v w u : View Begun Event) (desk : Desk D) → v.holding ≡ false → Took (commit_tale seen images moment since trail faults syncs) b v w desk → u ≡ given [] w.allowance w.share w → DidLook seen images moment since trail faults syncs v u
-  did_look b v w u desk idle took gave =
+  pub did_look : (v w u : View Begun Event) (desk : Desk D) → v.holding ≡ false → Took (commit_tale seen images moment since trail faults syncs) (begun_in v) v w desk → u ≡ given [] w.allowance w.share w → DidLook seen images moment since trail faults syncs v u
+  did_look v w u desk idle took gave =
       let saw : w.seen ≡ u.seen = sym (append-nil w.seen) ∙ sym (ap (λ (x : View Begun Event). x.seen) gave) in
       let same : w.share ≡ v.share = ap (λ (x : View Begun Event). x.share) took.view in
       let left : u.share ≡ v.share = ap (λ (x : View Begun Event). x.share) gave ∙ same in
@@ -145,6 +160,12 @@ module _ {D : Type 0} (seen : D → Option (List ℕ)) (images : D → List ℕ 
       record {
         later = subst (Later (commit_tale seen images moment since trail faults syncs) v) saw took.later;
         legal = subst Legal saw took.legal;
+        within = (
+            let seen_now : sum_by one_ticket u.seen ≡ sum_by one_ticket w.seen = ap (sum_by one_ticket) (sym saw) in
+            let most : (begun_in u).tickets ≡ (begun_in v).tickets = ap (λ (x : View Begun Event). (begun_in x).tickets) gave ∙ ap (λ (x : View Begun Event). (begun_in x).tickets) took.view in
+            let shared = took.shared in
+            omega (arith, left, seen_now, most, shared)
+            );
         view = turned v w u [] w.share idle took.view gave ∙ (λ i. record v { share = left i; turns = turns i; told = []; seen = u.seen });
       }
 
@@ -165,6 +186,7 @@ module _ {D : Type 0} (seen : D → Option (List ℕ)) (images : D → List ℕ 
           same = λ k has. d.later.same k (subst (Has k) (sym callers) has) ∙ f.later.same k has;
         };
         legal = d.legal;
+        within = d.within;
         view = d.view ∙ ap (λ (x : View Begun Event). record x { turns = u.turns; told = []; seen = u.seen }) f.view;
       }
 

@@ -52,6 +52,12 @@ module _ {D : Type 0} (seen : D → Option (List ℕ)) (images : D → List ℕ 
         legal = x.legal;
         callers = ap (λ (y : View Begun Event). y.callers) view;
         share = ap (λ (y : View Begun Event). y.share) view;
+        within = (
+            let same : u.share ≡ v.share + w.share = ap (λ (y : View Begun Event). y.share) view in
+            let most : (begun_in u).tickets ≡ (begun_in v).tickets = ap (λ (y : View Begun Event). (begun_in y).tickets) view in
+            let shared = x.shared in
+            omega (arith, same, most, shared)
+            );
         made = ap (λ (y : View Begun Event). y.made) view;
         turns = ap (λ (y : View Begun Event). y.turns) view;
         opening = ap (λ (y : View Begun Event). y.opening) view;

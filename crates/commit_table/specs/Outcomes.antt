@@ -1,5 +1,5 @@
 -- What became of each transaction of a history, and where it stands (docs/JOURNAL.md).
-use Rattle.std.specs.Prelude.{◌≡◌, ◌<◌, ◌≤◌, ℕ, ◌+◌, ◌-◌, ◌==◌, min, Bool, true, false, List, [], ◌∷◌, ◌++◌, length, take, drop, slice_get, Option, Some, None}
+use Rattle.std.specs.Prelude.{◌≡◌, ◌<◌, ◌≤◌, ℕ, ◌+◌, ◌-◌, ◌==◌, min, Bool, true, false, List, [], ◌∷◌, ◌++◌, length, take, drop, filter, slice_get, Option, Some, None}
 use Rattle.outside_io.specs.Counts.{last_count}
 use Rattle.journal_format.specs.Spelling.{Txn, txn_bytes, batch_bytes}
 use Rattle.journal_format.specs.declared.events.Event.{Event}
@@ -94,6 +94,10 @@ abbrev pub is_by : ℕ → Event → Bool
 is_by k (Sub caller txn) = caller == k
 is_by k (Settle n stored moment syncs faults) = false
 is_by k (Lost caller faults) = caller == k
+
+-- a caller's own events
+abbrev pub own : ℕ → List Event → List Event
+own k es = filter (is_by k) es
 
 -- whether the last Settle failed, where `failed` says it of the events before
 abbrev pub failed_after : Bool → List Event → Bool

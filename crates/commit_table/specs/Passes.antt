@@ -20,7 +20,7 @@ rest_of (k ∷ ks) = ks
 
 -- of a table of which nothing is known
 abbrev pub nothing_begun : Begun
-nothing_begun = record { commits = []; moment = 0; trail = None; gate = 0; syncs = 0; faults = 0; callers = 0; tickets = 0; bytes_each = 0 }
+nothing_begun = record { bytes = None; commits = []; moment = 0; trail = None; gate = 0; syncs = 0; faults = 0; callers = 0; tickets = 0; bytes_each = 0 }
 
 -- what the table began with, as the pass knows
 abbrev pub begun_or : Option Begun → Begun
@@ -40,6 +40,7 @@ seen_by v seen = record v { seen = seen }
 module _ {D : Type 0} (seen : D → Option (List ℕ)) (moment : D → ℕ) (trail : D → Option Trail) (faults syncs : D → ℕ) where
   abbrev pub begun_of : JournalView D → ℕ → ℕ → ℕ → Begun
   begun_of j callers tickets bytes_each = record {
+    bytes = seen j.disk;
     commits = commits_in (seen j.disk);
     moment = moment j.disk;
     trail = trail j.disk;

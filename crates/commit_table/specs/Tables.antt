@@ -15,7 +15,7 @@ use Rattle.commit_table.specs.declared.pass.CommitPass.{CommitPass}
 use Rattle.commit_table.specs.declared.table.CommitTable.{CommitTable}
 use Rattle.commit_table.specs.Outcomes.{Legal}
 use Rattle.commit_table.specs.Tale.{commit_tale}
-use Rattle.commit_table.specs.Turns.{DidCommit}
+use Rattle.commit_table.specs.Turns.{Within, DidCommit}
 use Rattle.commit_table.specs.Passes.{view_in, begun_in}
 
 -- what the pass knows
@@ -62,6 +62,7 @@ module _ {D : Type 0} (seen : D → Option (List ℕ)) (images : D → List ℕ 
     pub legal : Legal u.seen
     pub callers : u.callers ≡ v.callers ++ w.callers
     pub share : u.share ≡ v.share + w.share
+    pub within : Within u
     pub made : u.made ≡ v.made
     pub turns : u.turns ≡ v.turns
     pub opening : u.opening ≡ v.opening

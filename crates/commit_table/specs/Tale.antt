@@ -1,6 +1,7 @@
 -- What the journal under the lock is to the history of commits.
-use Rattle.std.specs.Prelude.{◌≡◌, ◌≤◌, ◌+◌, ◌↔◌, ℕ, false, List, [], length, Option, IfSome, sum_by}
+use Rattle.std.specs.Prelude.{◌≡◌, ◌≤◌, ◌+◌, ◌↔◌, ℕ, false, List, [], length, take, Option, IfSome, sum_by}
 use Rattle.std.specs.List.{AllByRecursion}
+use Rattle.outside_io.specs.Told.{WhileTold}
 use Rattle.disk_core.specs.declared.trails.Trail.{Trail}
 use Rattle.disk_core.specs.Trails.{Extends}
 use Rattle.journal_format.specs.Spelling.{txn_bytes}
@@ -19,6 +20,10 @@ use Rattle.commit_table.specs.Outcomes.{Outcome, book, is_by, one_ticket, syncs_
 abbrev pub IsGiven : ℕ → List ℕ → Outcome → Type 0
 IsGiven gate bytes o = IfSome o.place (λ at. (at + length (txn_bytes o.txn) ≤ gate) × Gives at (txn_bytes o.txn) bytes)
 
+-- what a read gave before the gate when the session began, it still gives; and the gate hasn't come back
+abbrev pub IsFront : ℕ → ℕ → List ℕ → List ℕ → Type 0
+IsFront began gate first now = (began ≤ gate) × (take began now ≡ take began first)
+
 module _ {D : Type 0} (seen : D → Option (List ℕ)) (images : D → List ℕ → Type 0) (moment : D → ℕ) (since : D → ℕ → List ℕ → Type 0) (trail : D → Option Trail) (faults syncs : D → ℕ) where
   -- A journal between two calls, of a session that so began, after this history.
   pub record Carries (b : Begun) (j : JournalView D) (J : List Event) : Type 0 where
@@ -32,8 +37,10 @@ module _ {D : Type 0} (seen : D → Option (List ℕ)) (images : D → List ℕ 
     pub settled : (after J).waiting ≡ []
     -- it is unclean exactly where the last batch failed
     pub clean : (j.trust ≡ Clean) ↔ (failed_after false J ≡ false)
-    -- the gate stands behind the last batch that was stored, and a read gives each that was stored at its place
+    -- the gate stands behind the last batch that was stored, and a read gives each that was stored at its place, and what
+    -- it gave before the first of them
     pub gate : j.gate ≡ (book b.gate J).gate
+    pub front : WhileTold b.bytes (seen j.disk) (IsFront b.gate j.gate)
     pub given : IfSome (seen j.disk) (λ bytes. AllByRecursion (IsGiven j.gate bytes) (book b.gate J).outcomes)
     -- the disk's counts have risen as the history tells
     pub syncs_are : syncs j.disk ≡ b.syncs + sum_by syncs_of J

@@ -14,6 +14,7 @@ use Rattle.commit_table.specs.declared.desk.Desk.{Desk}
 use Rattle.commit_table.specs.declared.answers.Settled.{Settled}
 use Rattle.commit_table.specs.declared.answers.Settled.TheVariants.{Stored, Failed}
 use Rattle.commit_table.specs.Outcomes.{Outcome, outcome_of, one_ticket, failed_after, Legal}
+use Rattle.commit_table.specs.Passes.{begun_in}
 use Rattle.commit_table.specs.Tale.{AtDesk, Carries, commit_tale}
 
 -- ---- events
@@ -38,6 +39,10 @@ read_events caller (Err e) faults = Lost caller faults ∷ []
 abbrev pub IsAnswered : Settled → Txn → ℕ → Option Outcome → Type 0
 IsAnswered (Stored receipt) txn ticket o = (receipt.ticket ≡ ticket) × (o ≡ Some (record { txn = txn; place = Some receipt.at }))
 IsAnswered Failed txn ticket o = o ≡ Some (record { txn = txn; place = None })
+
+-- the tickets that were made and those that the pass may still make are no more than the table has
+abbrev pub Within : View Begun Event → Type 0
+Within w = w.share + sum_by one_ticket w.seen ≤ (begun_in w).tickets
 
 -- With the journal in hand, a caller committed, and gave it back.
 pub record Wrote (b : Begun) (caller : ℕ) (txn : Txn) (settled : Settled) (v w : View Begun Event) : Type 0 where
@@ -75,12 +80,14 @@ module _ {D : Type 0} (seen : D → Option (List ℕ)) (images : D → List ℕ 
     pub legal : Legal w.seen
     pub answered : IsAnswered settled txn (sum_by one_ticket before) (outcome_of b.gate w.seen (sum_by one_ticket before))
     pub share : w.share + 1 ≡ v.share
+    pub within : Within w
     pub view : w ≡ record v { share = w.share; turns = v.turns + 1; told = []; seen = w.seen }
 
   -- A caller looked, as often as need be, and added nothing.
   pub record DidLook (v w : View Begun Event) : Type 0 where
     pub later : Later (commit_tale seen images moment since trail faults syncs) v w.seen
     pub legal : Legal w.seen
+    pub within : Within w
     pub view : w ≡ record v { turns = w.turns; told = []; seen = w.seen }
 
   -- These bytes were read from a place on, of a journal that carried this history.
@@ -97,4 +104,5 @@ module _ {D : Type 0} (seen : D → Option (List ℕ)) (images : D → List ℕ 
     pub adds : w.seen ≡ before ++ read_events caller result rise_of_faults
     pub legal : Legal w.seen
     pub read : OnOk result (IsRead b before at len bytes)
+    pub within : Within w
     pub view : w ≡ record v { turns = v.turns + 1; told = []; seen = w.seen }

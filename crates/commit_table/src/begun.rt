@@ -8,6 +8,8 @@ use std::marker::PhantomData;
 
 /// What a commit table began with. Contracts alone speak of it: no value of it is made.
 pub struct Begun {
+    /// What a read of its disk gave. None where the disk doesn't tell its bytes.
+    pub bytes: Option<LinkedList<u8>>,
     /// The commits that the journal held.
     pub commits: LinkedList<LinkedList<Item>>,
     /// The moment of its disk.

@@ -4,7 +4,7 @@ ghost use Rattle.journal_format.specs.Journal.{IsJournal};
 ghost use Rattle.journal_core.specs.declared.journal.Trust.TheVariants.{Clean};
 ghost use Rattle.history_lock.specs.Views.{first};
 ghost use Rattle.history_lock.specs.Plays.{Begins, Cuts, ForAll, opened, merged, cut_left, cut_right};
-ghost use Rattle.commit_table.specs.Outcomes.{Legal};
+ghost use Rattle.commit_table.specs.Outcomes.{Legal, own};
 ghost use Rattle.commit_table.specs.Tale.{commit_tale, Carries};
 ghost use Rattle.commit_table.specs.Passes.{begun_of, begun_in, rest_of, seen_by};
 ghost use Rattle.commit_table.specs.Tables.{IsPassOf, view, begun, DidSplit, DidJoin};
@@ -171,13 +171,14 @@ impl<D: Disk + Drop, R: Drop> CommitTable<D, R> {
     }
 
     /// The journal at the end, by a boss into whose pass every other was joined. It carries the whole history, which the
-    /// boss has seen.
+    /// boss has seen, and in which each Sub and each Lost is of a caller that was made.
     pub fn close(self, boss: CommitPass) -> Journal<D>
         requires table { IsPassOf self boss }
         requires boss { ForAll (view boss) }
         ensures carries { Carries D.seen D.images D.moment D.since D.trail D.faults D.syncs
             (begun boss) result (view boss).seen }
         ensures legal { Legal (view boss).seen }
+        ensures callers { (k : ℕ) → (view boss).made ≤ k → own k (view boss).seen ≡ [] }
     {
         let CommitTable {
             lock,

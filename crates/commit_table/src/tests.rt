@@ -1,4 +1,4 @@
-ghost use Rattle.std.specs.Prelude.{◌≡◌, ◌≤◌, ◌∷◌, [], length, IfOk, IfSome};
+ghost use Rattle.std.specs.Prelude.{◌≡◌, ◌+◌, ◌≤◌, ◌∷◌, [], length, IfOk, IfSome};
 ghost use Rattle.journal_format.specs.Spelling.{txn_bytes};
 ghost use Rattle.commit_table.specs.Tables.{IsPassOf, begun, view, Same};
 
@@ -21,6 +21,14 @@ const BATCH: &[u8] = b"\x01\0\0\0\0\0\0\0\x13\0\0\0\x01\0\0\0\x01\x02\x01q";
 
 /// How many bytes a transaction may have.
 const BYTES_EACH: u64 = 64;
+
+/// How many transactions each of two threads commits.
+const EACH: u64 = 200;
+
+/// How many calls the disk takes, and how many bytes.
+const MOST_CALLS: u64 = 4_000;
+
+const MOST_BYTES: u64 = 40_000;
 
 // That entry is gone from queue q. None for want of memory.
 fn gone(alloc: Global, id: u64) -> Option<Txn>
@@ -50,7 +58,13 @@ fn made<R: Drop>(
         × ((view t.1).callers ≡ 0 ∷ []) × ((view t.1).made ≡ 1)) }
 {
     let failing = Vec::from_slice(alloc, failing)?;
-    let disk = MemoryDisk::of(alloc, Bytes::of(alloc, b"")?, 999, 9999, failing)?;
+    let disk = MemoryDisk::of(
+        alloc,
+        Bytes::of(alloc, b"")?,
+        MOST_CALLS,
+        MOST_BYTES,
+        failing,
+    )?;
     match create(disk) {
         Ok(journal) => match CommitTable::make(rt, alloc, journal, 3, tickets as u64, BYTES_EACH) {
             Ok(table) => Ok(table),
@@ -222,35 +236,38 @@ fn each_device_call_may_fail(rt: HostRuntime) -> Result<(), Fail> {
     Ok(())
 }
 
-// Commits that so many entries are gone, the first of them with this id. Tells whether all are stored.
+// Commits that entries are gone, those of the ids from this one on, one by each commit. Adds the ticket of each that is
+// stored to a list that has room.
 #[tactic(auto, using(crate::proofs::Sames::same_self, crate::proofs::Sames::same_then))]
 fn commit_all<R: Wait + Send + Sync + Drop>(
     alloc: Global,
     table: &CommitTable<MemoryDisk, R>,
     pass: CommitPass,
     first: u64,
-    count: u64,
-) -> (CommitPass, bool)
+    tickets: Vec<u64>,
+) -> (CommitPass, Vec<u64>)
     requires pass { IsPassOf table.now pass }
     requires room { (begun pass).bytes_each ≡ BYTES_EACH }
     ensures same { Same pass result.0 }
 {
     let mut pass = pass;
-    for id in 0..count {
-        if !is_stored(commit_gone(alloc, table, &mut pass, first.wrapping_add(id))) {
-            return (pass, false);
+    let mut tickets = tickets;
+    for k in 0..EACH {
+        let settled = commit_gone(alloc, table, &mut pass, first.wrapping_add(k));
+        if let Some(Settled::Stored(receipt)) = settled {
+            let _ = tickets.push(receipt.ticket);
         }
     }
-    (pass, true)
+    (pass, tickets)
 }
 
-// Two passes with 20 tickets each.
+// Two passes with as many tickets as each thread needs.
 fn parted<R: Drop>(
     table: &CommitTable<MemoryDisk, R>,
     boss: &mut CommitPass,
 ) -> (CommitPass, CommitPass)
     requires table { IsPassOf table.now boss.old }
-    requires boss { (boss.old.caller ≡ 0) × (boss.old.share ≡ 40)
+    requires boss { (boss.old.caller ≡ 0) × (boss.old.share ≡ EACH + EACH)
         × ((view boss.old).callers ≡ 0 ∷ []) × ((view boss.old).made ≡ 1) }
     requires begun { (begun boss.old).callers ≡ 3 }
     ensures tables { IsPassOf table.now boss.new × IsPassOf table.now result.0
@@ -261,8 +278,8 @@ fn parted<R: Drop>(
         × ((view result.1).callers ≡ 2 ∷ []) }
     ensures made { (view boss.new).made ≡ 3 }
 {
-    let one = table.split(boss, 20);
-    let two = table.split(boss, 20);
+    let one = table.split(boss, EACH);
+    let two = table.split(boss, EACH);
     (one, two)
 }
 
@@ -285,51 +302,49 @@ fn joined<R: Drop>(
     table.close(boss)
 }
 
+// Whether the entries from this id on are gone by the batches that stand where these tickets say: a batch has 28 bytes, and
+// the first begins with the gate behind the header.
+fn stand_in_order(found: &[u8], tickets: &[u64], first: u64) -> bool {
+    let mut id = first;
+    for ticket in tickets {
+        let at = 16u64.wrapping_add(ticket.wrapping_mul(28)) as usize;
+        let batch = found.get(at..at.wrapping_add(28)).unwrap_or(&[]);
+        match batch.split_at_checked(BATCH.len()) {
+            Some((front, number)) if front == BATCH && number == id.to_be_bytes().as_slice() => {}
+            _ => return false,
+        }
+        id = id.wrapping_add(1);
+    }
+    tickets.len() as u64 == EACH
+}
+
 #[test]
 fn two_threads_commit_each_once_in_ticket_order(rt: HostRuntime) -> Result<(), Fail> {
     let alloc = rt.alloc();
-    let (table, mut boss) = made(rt, alloc, 40, &[])?;
+    let (table, mut boss) = made(rt, alloc, 400, &[])?;
     let (one, two) = parted(&table, &mut boss);
     let commits = &table;
+    let room = Vec::with_capacity(alloc, 200)?;
+    let other = Vec::with_capacity(alloc, 200)?;
     let (a, b) = join(
         &rt,
-        || -> (CommitPass, bool)
+        || -> (CommitPass, Vec<u64>)
             requires { IsPassOf commits.now one × (begun one).bytes_each ≡ BYTES_EACH }
             ensures { Same one result.0 }
-        { commit_all(alloc, commits, one, 100, 20) },
-        || -> (CommitPass, bool)
+        { commit_all(alloc, commits, one, 1000, room) },
+        || -> (CommitPass, Vec<u64>)
             requires { IsPassOf commits.now two × (begun two).bytes_each ≡ BYTES_EACH }
             ensures { Same two result.0 }
-        { commit_all(alloc, commits, two, 200, 20) },
+        { commit_all(alloc, commits, two, 2000, other) },
     );
-    assert!(rt; a.1 && b.1);
-    let found = told(alloc, joined(table, boss, a.0, b.0))?;
-    assert!(rt; each_once_in_order(found.as_slice()));
+    let disk = joined(table, boss, a.0, b.0).into_disk();
+    // Three calls of `create`, and four of each commit.
+    assert_eq!(rt; disk.calls(), 3 + 4 * 400);
+    let last = disk.image(alloc, disk.moments() - 1, 0)?;
+    let found = bytes_of(alloc, last)?;
+    // The header, the batches, and the closed gate: so each batch is there once.
+    assert_eq!(rt; found.as_slice().len(), 16 + 28 * 400 + 1);
+    assert!(rt; stand_in_order(found.as_slice(), &a.1, 1000));
+    assert!(rt; stand_in_order(found.as_slice(), &b.1, 2000));
     Ok(())
-}
-
-// Whether these are the bytes of a journal of 40 commits, in which the entries from 100 on and those from 200 on are gone,
-// each of both in their order.
-fn each_once_in_order(found: &[u8]) -> bool {
-    let mut low = 100u64;
-    let mut high = 200u64;
-    let mut left = found.get(EMPTY.len() - 1..).unwrap_or(&[]);
-    for _ in 0..40 {
-        let Some((batch, rest)) = left.split_at_checked(BATCH.len() + 8) else {
-            return false;
-        };
-        let id = u64::from(batch.last().copied().unwrap_or(0));
-        if !batch.starts_with(BATCH) {
-            return false;
-        }
-        if id == low {
-            low += 1;
-        } else if id == high {
-            high += 1;
-        } else {
-            return false;
-        }
-        left = rest;
-    }
-    low == 120 && high == 220 && left == [0u8].as_slice()
 }

@@ -7,3 +7,5 @@ pub mod Putting
 pub mod Ringing
 pub mod Naming
 pub mod Depthing
+mod Closable
+mod Working

@@ -1,5 +1,5 @@
 -- what the calls on one row mean
-use Rattle.std.proofs.Common.{◌≡◌, ◌≢◌, ℕ, List, [], ◌∷◌, ◌++◌, Some, refl, sym, ap, ◌∙◌, subst}
+use Rattle.std.proofs.Common.{◌≡◌, ◌≢◌, ℕ, List, [], ◌∷◌, ◌++◌, Some, refl, ◌∙◌, subst}
 use mathlib.Core.List.{IsPrefix}
 use mathlib.Core.List.{mem-cons_of_mem}
 use mathlib.Core.List.{mem-append_left}
@@ -9,22 +9,19 @@ use Rattle.queue_model.specs.declared.queues.Queue.{Queue}
 use Rattle.queue_model.specs.declared.rows.Row.{Row}
 use Rattle.queue_model.specs.declared.rows.RowState.{RowState}
 use Rattle.queue_model.specs.declared.rows.RowState.TheVariants.{Unlocked}
-use Rattle.queue_model.specs.declared.rows.Slip.{Slip}
 use Rattle.queue_model.specs.declared.steps.Tried.{Tried}
 use Rattle.queue_model.specs.History.{after, deed}
 use Rattle.queue_model.specs.State.{row_at, IsIn}
-use Rattle.queue_model.proofs.Histories.{after-append}
 use Rattle.queue_model.proofs.Prefixes.{prefix_trans}
-use Rattle.queue_model.proofs.Stable.{row_stays}
-use Rattle.acts_core.specs.Calls.{CallLock, CallUnlock, CallRelease, CallSteal, CallDelete, IsLocked, IsStolen, IsReleased, HasStolen, IsNotStealable, IsMoved, IsDone}
+use Rattle.acts_core.specs.Calls.{CallLock, CallUnlock, CallSteal, CallDelete, IsLocked, IsStolen, HasStolen, IsNotStealable, IsMoved, IsDone}
 use Rattle.acts_core.specs.Load.{Load}
 use Rattle.acts_core.specs.Meaning.{Called}
-use Rattle.acts_core.specs.Moments.{IsLoadOf, HasMask}
+use Rattle.acts_core.specs.Moments.{IsLoadOf}
 use Rattle.acts_core.specs.Steps.{Stepped}
 use Rattle.acts_core.proofs.Stepping.{called_by, stepped_trans}
 use Rattle.entry_table.specs.declared.entries.Entries.{Entries}
 use Rattle.entry_table.specs.declared.pass.Pass.{Pass}
-use Rattle.entry_table.specs.Passes.{Did, opening, seen, shown}
+use Rattle.entry_table.specs.Passes.{Did, seen, shown}
 use Rattle.entry_table.specs.Sights.{build_of, sight}
 use Rattle.entry_table.proofs.Sighting.{stepped}
 use Rattle.entry_calls.specs.Changed.{Keeps, Changed, Looks}

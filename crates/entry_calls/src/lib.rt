@@ -16,4 +16,10 @@ pub use locks::{lock, release, steal, unlock};
 pub use removals::{delete, dequeue};
 
 #[cfg(test)]
+mod closing_tests;
+#[cfg(test)]
+mod shared_tests;
+#[cfg(test)]
+mod stress_tests;
+#[cfg(test)]
 mod tests;

@@ -9,8 +9,8 @@ use std::test::Fail;
 
 /// A message with no bytes.
 #[derive(Debug, Drop)]
-struct Empty {
-    id: u64,
+pub(crate) struct Empty {
+    pub(crate) id: u64,
 }
 
 impl Cargo for Empty {
@@ -35,7 +35,7 @@ impl Cargo for Empty {
 }
 
 /// A slip of a message with no bytes, in the only list, that no consumer wants.
-fn slip(id: u64) -> Slip
+pub(crate) fn slip(id: u64) -> Slip
     ensures id { result.id ≡ id }
     ensures size { result.size ≡ 0 }
     ensures mask { result.mask ≡ 0 }

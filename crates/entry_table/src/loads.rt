@@ -19,6 +19,7 @@ use std::mem;
 
 impl<C: Freight> Entries<C> {
     /// What a word holds.
+    #[inline(always)]
     pub fn look(&self, pass: &mut Pass, word: WordName) -> u64
         requires table { IsPassOf self.now pass.old }
         requires word { HasWord self.now.shape word }
@@ -36,6 +37,7 @@ impl<C: Freight> Entries<C> {
         found
     }
 
+    #[inline(always)]
     fn look_at<J: Trying>(
         &self,
         seat: &mut Seat<Option<C>, View>,

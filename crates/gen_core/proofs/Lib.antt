@@ -1,4 +1,4 @@
 mod Rows
-mod Totals
+pub mod Totals
 mod Allowed
-mod Adding
+pub mod Adding

@@ -14,18 +14,18 @@ returns-in-Err-Bad g c = λ seats.
     let said : selector_of c.args.text.now ≡ refused at kind = rw c.in-Err-Bad.field-0-is at c.in-Err-Bad.ensures.said in
     let means : IsOutcome c.args.text.now (refused at kind) = rw c.in-Err-Bad.field-0-is at c.in-Err-Bad.ensures.means in
     let is : IsRead c.args.text.now (refused at kind) = record { said = said; means = means } in
-    refusal_ends (select c.args.text.now) _ _ _ refl (selector_text at kind) refl (inl (record { at = at; kind = kind; is = is; unread = refl; told = refl })) c.refuse_selector.ensures
+    refusal_ends (select c.args.text.now) _ _ _ refl tt (selector_text at kind) refl (inl (record { at = at; kind = kind; is = is; unread = refl; told = refl })) c.refuse_selector.ensures
 
 pub returns-in-Err : goal.returns-in-Err
 returns-in-Err g c = λ seats.
     let is : IsRead c.args.text.now (reads c.in-Ok.selector) = record { said = c.in-Ok.ensures.said; means = c.in-Ok.ensures.means } in
-    unread_ends (select c.args.text.now) _ _ _ refl c.in-Err.unread (λ large. inr (record { tree = c.in-Ok.selector; is = is; refused = inl large })) c.in-Err.ensures.unread c.tell_unread.ensures
+    unread_ends (select c.args.text.now) _ _ _ refl tt c.in-Err.unread (λ large. inr (record { tree = c.in-Ok.selector; is = is; refused = inl large })) c.in-Err.ensures.unread c.tell_unread.ensures
 
 pub returns : goal.returns
 returns g c = λ seats.
     let is : IsRead c.args.text.now (reads c.in-Ok.selector) = record { said = c.in-Ok.ensures.said; means = c.in-Ok.ensures.means } in
     let fault = c.in-Err-truths.fault in
-    fault_ends (select c.args.text.now) _ _ _ refl c.of_script.result c.in-Ok-read_input.ensures.kept
+    fault_ends (select c.args.text.now) _ _ _ refl tt c.of_script.result c.in-Ok-read_input.ensures.kept
     (λ other.
     let told = of_script fault c.of_script.result c.of_script.ensures other in
     inr (record {

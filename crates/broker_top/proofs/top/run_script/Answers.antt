@@ -7,11 +7,11 @@ use Rattle.broker_top.proofs.top.run_script.Goals as goal
 use Rattle.broker_top.proofs.top.run_script.Goals.{in-Ok-run_phases, in-Err-NoMemory, in-Err-WriteFault}
 
 pub returns-in-Err : goal.returns-in-Err
-returns-in-Err g c = unread_ends run _ _ _ refl c.in-Err.unread (λ large. inl large) c.in-Err.ensures.unread c.tell_unread.ensures
+returns-in-Err g c = unread_ends run _ _ _ refl tt c.in-Err.unread (λ large. inl large) c.in-Err.ensures.unread c.tell_unread.ensures
 
 pub returns-in-Err-read_job : goal.returns-in-Err-read_job
 returns-in-Err-read_job g c =
-    fault_ends run _ _ _ refl c.in-Err-read_job.fault c.in-Ok.ensures.kept
+    fault_ends run _ _ _ refl tt c.in-Err-read_job.fault c.in-Ok.ensures.kept
     (λ other. inr (record {
       input = c.in-Ok.bytes.items;
       whole = c.in-Ok.ensures.whole;

@@ -1,22 +1,21 @@
-use Rattle.std.proofs.Common.{◌≡◌, ◌∙◌, ap, ap₂, map, rules, string_bytes, subst, sym, true, List}
+use Rattle.std.proofs.Common.{◌≡◌, ◌∙◌, ap, ap₂, map, string_bytes, subst, sym, true, List}
 use Rattle.std.specs.Prelude.{Option}
 use Rattle.std.proofs.lemmas.Result.{IfErr-weaker, IfOk-weaker}
-use Rattle.clap.specs.Walk.{Row, Text, rule_of}
-use Rattle.clap.specs.Simple.{App, Shape, app_of, app_of_fields, is_simple, subcommand_of, with_rule, with_subcommand}
+use Rattle.clap.specs.Walk.{Row, Text}
+use Rattle.clap.specs.Simple.{App, Shape, app_of, app_of_fields, is_simple, subcommand_of, with_subcommand}
 use Rattle.clap.specs.Takes.{takes}
 use Rattle.broker_top.specs.Words.{asked}
 use Rattle.broker_top.specs.CommandLine.{Holds}
-use Rattle.broker_top.proofs.CommandLines.{is_read, program, program_is_simple, text_rule, bare}
+use Rattle.broker_top.proofs.CommandLines.{is_read, program, program_is_simple, bare}
 use Rattle.broker_top.proofs.words.read_matches.Goals as goal
 
 pub returns : goal.returns
 returns c =
-    let text_is : rule_of c.required-text.result ≡ text_rule = search rules in
     let top : App → Shape = λ a. a.top in
-    let select_is = ap top (c.in_ok-select.ensures.shape (search rules) ∙ ap₂ with_rule c.new-2.ensures.app text_is) in
-    let bare_is : app_of c.no_binary_name.result ≡ bare = ap app_of_fields c.no_binary_name.ensures ∙ ap (λ (a : App). record { top = record a.top { no_binary_name = true }; subs = a.subs }) c.new-3.ensures.app in
-    let with_run = c.in_ok-subcommand.ensures.shape (search rules) ∙ ap₂ with_subcommand bare_is (ap top c.new-run.ensures.app) in
-    let program_is : app_of c.in_ok-program.program ≡ program = c.in_ok-program.ensures.shape (search rules) ∙ ap₂ with_subcommand with_run select_is in
+    let bare_is : app_of c.no_binary_name.result ≡ bare = ap app_of_fields c.no_binary_name.ensures ∙ ap (λ (a : App). record { top = record a.top { no_binary_name = true }; subs = a.subs }) c.new.ensures.app in
+    let with_run = c.in_ok-subcommand.ensures.shape c.new-run.ensures.local ∙ ap₂ with_subcommand bare_is (ap top c.new-run.ensures.app) in
+    let with_select = c.in_ok-subcommand-2.ensures.shape c.in_ok-select.ensures.keeps.own ∙ ap₂ with_subcommand with_run (ap top c.in_ok-select.ensures.shape) in
+    let program_is : app_of c.in_ok-program.program ≡ program = c.in_ok-program.ensures.shape c.in_ok-generate.ensures.keeps.own ∙ ap₂ with_subcommand with_select (ap top c.in_ok-generate.ensures.shape) in
     let words = map string_bytes c.args.words.now in
     let read = is_read words c.requires in
     let parse = c.try_get_matches_from in

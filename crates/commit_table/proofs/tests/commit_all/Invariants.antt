@@ -1,5 +1,5 @@
 use Rattle.commit_table.specs.Tables.{Same}
 use Rattle.commit_table.proofs.tests.commit_all.Given as goal
 
-abbrev pub invariant-loop-id : goal.invariant-loop-id
-invariant-loop-id g l = Same l.fn.pass l.pass
+abbrev pub invariant-loop-k : goal.invariant-loop-k
+invariant-loop-k g l = Same l.fn.pass l.pass

@@ -24,7 +24,7 @@ pub returns-clause-looked : goal.returns-clause-looked
 returns-clause-looked g c =
     let D = g.D.Disk in
     let v = c.args.seat.now.me.0 in
-    did_look D.seen D.images D.moment D.since D.trail D.faults D.syncs (begun_in v) v c.lock-desk.new.seat.me.0 c.unlock.new.seat.me.0 c.lock-desk.result c.requires.idle.1 (c.lock-desk.ensures.took (begun_in v) c.requires.live.0) (ap (λ m. m.0) c.unlock.ensures.gave)
+    did_look D.seen D.images D.moment D.since D.trail D.faults D.syncs v c.lock-desk.new.seat.me.0 c.unlock.new.seat.me.0 c.lock-desk.result c.requires.idle.1 (c.lock-desk.ensures.took (begun_in v) c.requires.live.0) (ap (λ m. m.0) c.unlock.ensures.gave)
 
 pub returns-clause-outcomes : goal.returns-clause-outcomes
 returns-clause-outcomes g c ticket less =

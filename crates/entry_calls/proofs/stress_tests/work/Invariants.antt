@@ -1,0 +1,9 @@
+use Rattle.acts_core.specs.Hands.{SamePass}
+use Rattle.entry_table.specs.Sights.{Serves, sight}
+use Rattle.entry_calls.proofs.stress_tests.work.Given as goal
+
+abbrev pub invariant-loop-k : goal.invariant-loop-k
+invariant-loop-k l = record {
+  serves : Serves l.entries l.pass;
+  same : SamePass (sight l.fn.pass) (sight l.pass);
+}
