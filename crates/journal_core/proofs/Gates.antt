@@ -44,13 +44,16 @@ created old new images first is none written only = record {
 opened_at : (bytes : List ℕ) (gate : ℕ) → gate < length bytes → get_or bytes gate 0 ≡ 1 → bytes ≡ take gate bytes ++ (1 ∷ drop (gate + 1) bytes)
 opened_at bytes gate lt is = split_at gate bytes lt ∙ ap (λ g. take gate bytes ++ (g ∷ drop (gate + 1) bytes)) is
 
-pub next_front : (bytes : List ℕ) (gate next : ℕ) (ts C : List Txn) → gate < length bytes → get_or bytes gate 0 ≡ 1 → Front (take gate bytes) C → IsBatchAt bytes (gate + 1) ts next → Front (take next bytes) (C ++ ts)
-next_front bytes gate next ts C lt is front b =
+-- up to the next gate there is a batch more
+pub grown_bytes : (bytes : List ℕ) (gate next : ℕ) (ts : List Txn) → gate < length bytes → get_or bytes gate 0 ≡ 1 → IsBatchAt bytes (gate + 1) ts next → take next bytes ≡ take gate bytes ++ open_bytes ts
+grown_bytes bytes gate next ts lt is b =
     let whole : bytes ≡ (take gate bytes ++ open_bytes ts) ++ drop next bytes =
     opened_at bytes gate lt is ∙ ap (λ (l : List ℕ). take gate bytes ++ (1 ∷ l)) b.is ∙ sym (append_assoc (take gate bytes) (open_bytes ts) (drop next bytes)) in
     let size : length (take gate bytes ++ open_bytes ts) ≡ next = omega (arith, length-append (take gate bytes) (open_bytes ts), length-take-le gate bytes (omega (arith, lt)), b.next_is) in
-    let part : take next bytes ≡ take gate bytes ++ open_bytes ts = ap (λ (l : List ℕ). take next l) whole ∙ take_at (take gate bytes ++ open_bytes ts) (drop next bytes) next size in
-    subst (λ (l : List ℕ). Front l (C ++ ts)) (sym part) (front_grows (take gate bytes) C ts front b.batch)
+    ap (λ (l : List ℕ). take next l) whole ∙ take_at (take gate bytes ++ open_bytes ts) (drop next bytes) next size
+
+pub next_front : (bytes : List ℕ) (gate next : ℕ) (ts C : List Txn) → gate < length bytes → get_or bytes gate 0 ≡ 1 → Front (take gate bytes) C → IsBatchAt bytes (gate + 1) ts next → Front (take next bytes) (C ++ ts)
+next_front bytes gate next ts C lt is front b = subst (λ (l : List ℕ). Front l (C ++ ts)) (sym (grown_bytes bytes gate next ts lt is b)) (front_grows (take gate bytes) C ts front b.batch)
 
 pub damaged_at : (bytes : List ℕ) (gate at left : ℕ) (C : List Txn) → gate < length bytes → get_or bytes gate 0 ≡ 1 → Front (take gate bytes) C → batch_at (drop (gate + 1) bytes) ≡ Err left
     → at ≡ gate + 1 + (length (drop (gate + 1) bytes) - left) → IsDamaged bytes at
@@ -100,7 +103,7 @@ read_each items (Err e) seen1 seen2 images1 images2 none only still told read = 
 
 module _ (seen : Option (List ℕ)) (images : List ℕ → Type 0) (v : List ℕ) (each : (c : List ℕ) → images c → v ≡ c)
     (told : (c : List ℕ) → images c → IsTold seen) (short : IfSome seen (λ b. length b < 2 ^ 63)) (read : IfSome seen (λ b. v ≡ b)) where
-  opened_as : (bytes : List ℕ) (gate : ℕ) → bytes ≡ v → IsGateOf v gate → OpenedAs bytes images gate Clean
+  pub opened_as : (bytes : List ℕ) (gate : ℕ) → bytes ≡ v → IsGateOf v gate → OpenedAs bytes images gate Clean
   opened_as bytes gate same g = (
     g.commits,
     subst (λ (l : List ℕ). IsJournal l g.commits) (sym same) (shut_journal g.before g.commits v g.front g.shut),

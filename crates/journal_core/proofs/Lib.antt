@@ -6,3 +6,4 @@ pub mod Committing
 pub mod Sessions
 pub mod ReadOnly
 pub mod Gates
+pub mod ReadTo

@@ -1,7 +1,8 @@
 -- What creating and opening a journal say.
-use Rattle.std.specs.Prelude.{◌≡◌, ◌<◌, ℕ, ◌+◌, List, [], length, Option, IfSome, Result, Ok, Err}
+use Rattle.std.specs.Prelude.{◌≡◌, ◌<◌, ℕ, ◌+◌, List, [], ◌∷◌, length, Option, IfSome, Result, Ok, Err}
 use Rattle.journal_format.specs.Spelling.{Txn}
-use Rattle.journal_format.specs.Journal.{Front, IsJournal, IsHeaded, IsDamaged}
+use Rattle.journal_format.specs.Journal.{Front, IsJournal, IsHeaded, IsDamaged, open_bytes}
+use Rattle.journal_format.specs.declared.batches.Batch.{Batch}
 use Rattle.journal_format.specs.declared.faults.BatchFault.{BatchFault}
 use Rattle.journal_format.specs.declared.faults.BatchFault.TheVariants.{NotBatch, NoMemory}
 use Rattle.journal_core.specs.declared.faults.CreateFault.{CreateFault}
@@ -58,3 +59,22 @@ pub record IsGateOf (bytes : List ℕ) (gate : ℕ) : Type 0 where
 -- these bytes are a journal, and each image stands for its commits
 abbrev pub OpenedAs : List ℕ → (List ℕ → Type 0) → ℕ → Trust → Type 0
 OpenedAs bytes images gate trust = (C : List Txn) × IsJournal bytes C × Stands images gate trust C []
+
+-- batches with the place of the gate behind each, the first behind the gate at a place
+abbrev pub batches_from : ℕ → List (List Txn) → List Batch
+batches_from gate [] = []
+batches_from gate (b ∷ bs) = record { txns = b; next = gate + length (open_bytes b) } ∷ batches_from (gate + length (open_bytes b)) bs
+
+-- these bytes are a journal with so many transactions, and these are its batches
+pub record AreBatches (bytes : List ℕ) (commits : ℕ) (read : List Batch) : Type 0 where
+  pub txns : List Txn
+  pub journal : IsJournal bytes txns
+  pub commits_are : commits ≡ length txns
+  pub batches_are : read ≡ batches_from 16 journal.front.batches
+
+-- the bytes of a disk, as it tells them where it does, are a journal with these batches, and each image stands for its commits
+pub record OpenedBatches (images : List ℕ → Type 0) (seen : Option (List ℕ)) (gate : ℕ) (trust : Trust) (commits : ℕ) (read : List Batch) : Type 0 where
+  pub bytes : List ℕ
+  pub opened : OpenedAs bytes images gate trust
+  pub batches : AreBatches bytes commits read
+  pub told : IfSome seen (λ seen_bytes. bytes ≡ seen_bytes)

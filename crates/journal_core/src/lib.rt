@@ -9,11 +9,13 @@ mod opening;
 mod put;
 mod reading;
 mod steps;
+mod walk;
 
 pub use faults::{CreateFault, OpenFault};
 pub use journal::{Journal, Trust};
 pub use journal_format::DeviceFault;
-pub use opening::{create, open_bytes, open_journal};
+pub use opening::{create, open_batches, open_journal};
+pub use walk::Batches;
 
 #[cfg(test)]
 mod tests;

@@ -1,12 +1,11 @@
 //! Creating and opening a journal.
-ghost use Rattle.std.specs.Prelude.{◌≡◌, ◌+◌, ◌<◌, ◌≤◌, ◌↔◌, [], ℕ, List, length, IsTrue, IfOk, IfErr, IfSome, IsSomeAnd, OnOk};
+ghost use Rattle.std.specs.Prelude.{◌≡◌, ◌+◌, ◌<◌, ◌≤◌, [], ℕ, List, length, IfOk, IfErr, IfSome, IsSomeAnd, OnOk};
 ghost use Rattle.outside_io.specs.Told.{HasCause};
 ghost use Rattle.disk_core.specs.Trails.{Extends};
 ghost use Rattle.disk_core.specs.Images.{Over, Still, NoMore};
 ghost use Rattle.journal_format.specs.Spelling.{Txn};
-ghost use Rattle.journal_format.specs.Journal.{IsHeaded};
 ghost use Rattle.journal_core.specs.Stands.{Stands};
-ghost use Rattle.journal_core.specs.Opening.{left_by, CreateFits, OpenFits, GateFits, ReadFits, IsGateOf, OpenedAs, fault_of};
+ghost use Rattle.journal_core.specs.Opening.{left_by, CreateFits, OpenFits, GateFits, ReadFits, IsGateOf, OpenedAs, OpenedBatches};
 ghost use Rattle.journal_core.specs.declared.faults.CreateFault.TheVariants.{DeviceFault};
 ghost use Rattle.journal_core.specs.declared.journal.Trust.TheVariants.{Clean};
 
@@ -15,16 +14,10 @@ use crate::journal::{Journal, Trust};
 use crate::put::put;
 use crate::reading::read_whole;
 use crate::steps::only_sync;
+use crate::walk::{Batches, HEADER, batches_of, gate_of};
 use byte_lists::Bytes;
 use disk_core::Disk;
-use journal_format::BatchFault;
-use journal_format::batches::read_batch;
 use std::alloc::Global;
-
-/// The bytes before the first gate: the name, the version and zeros.
-const HEADER: [u8; 16] = [
-    b'Q', b'P', b'I', b'D', b'Q', b'J', b'N', b'L', 0, 0, 0, 1, 0, 0, 0, 0,
-];
 
 /// A journal with no commits: the header, and a closed gate.
 const FIRST_BYTES: [u8; 17] = [
@@ -117,16 +110,24 @@ pub fn open_journal<D: Disk>(alloc: Global, disk: D) -> Result<Journal<D>, (Open
     ensures syncs { (D.syncs disk ≤ D.syncs (left_by (λ j. j.disk) result))
         × (D.syncs (left_by (λ j. j.disk) result) ≤ D.syncs disk + 1) }
 {
-    match open_bytes(alloc, disk) {
-        Ok((journal, _)) => Ok(journal),
-        Err((fault, disk)) => Err((fault, disk)),
+    let mut disk = disk;
+    match find_gate(alloc, &mut disk) {
+        Ok((gate, _)) => Ok(Journal {
+            disk,
+            gate,
+            trust: Trust::Clean,
+        }),
+        Err(fault) => Err((fault, disk)),
     }
 }
 
-/// Opens the journal on a disk, as `open_journal` does, and gives all of its bytes too, as they were read.
-pub fn open_bytes<D: Disk>(alloc: Global, disk: D) -> Result<(Journal<D>, Bytes), (OpenFault, D)>
-    ensures opened { IfOk result (λ x. OpenedAs x.1 (D.images x.0.disk) x.0.gate x.0.trust) }
-    ensures told { IfOk result (λ x. IfSome (D.seen x.0.disk) (λ b. x.1 ≡ b)) }
+/// Opens the journal on a disk, as `open_journal` does, and gives its batches too. Each batch is read once.
+pub fn open_batches<D: Disk>(
+    alloc: Global,
+    disk: D,
+) -> Result<(Journal<D>, Batches), (OpenFault, D)>
+    ensures opened { IfOk result (λ x. OpenedBatches (D.images x.0.disk) (D.seen x.0.disk) x.0.gate
+        x.0.trust x.1.commits x.1.read.items) }
     ensures clean { IfOk result (λ x. x.0.trust ≡ Clean) }
     ensures refused { IfErr result (λ e. OpenFits e.0 (D.seen e.1) (D.faults disk) (D.faults e.1)) }
     ensures faults { IfOk result (λ x. D.faults x.0.disk ≡ D.faults disk) }
@@ -138,10 +139,10 @@ pub fn open_bytes<D: Disk>(alloc: Global, disk: D) -> Result<(Journal<D>, Bytes)
         × (D.syncs (left_by (λ x. x.0.disk) result) ≤ D.syncs disk + 1) }
 {
     let mut disk = disk;
-    match find_gate(alloc, &mut disk) {
-        Ok((gate, bytes)) => {
+    match find_batches(alloc, &mut disk) {
+        Ok((gate, batches)) => {
             let trust = Trust::Clean;
-            Ok((Journal { disk, gate, trust }, bytes))
+            Ok((Journal { disk, gate, trust }, batches))
         }
         Err(fault) => Err((fault, disk)),
     }
@@ -162,6 +163,25 @@ fn find_gate<D: Disk>(alloc: Global, disk: &mut D) -> Result<(u64, Bytes), OpenF
 {
     match read_synced(alloc, disk) {
         Ok(bytes) => gated(alloc, bytes),
+        Err(fault) => Err(fault),
+    }
+}
+
+// Syncs, reads all bytes, and of these the batches up to the first gate that isn't open.
+fn find_batches<D: Disk>(alloc: Global, disk: &mut D) -> Result<(u64, Batches), OpenFault>
+    ensures opened { IfOk result (λ x. OpenedBatches (D.images disk.new) (D.seen disk.new) x.0 Clean
+        x.1.commits x.1.read.items) }
+    ensures refused { IfErr result (λ e.
+        OpenFits e (D.seen disk.new) (D.faults disk.old) (D.faults disk.new)) }
+    ensures faults { OnOk result (D.faults disk.new ≡ D.faults disk.old) }
+    ensures still { Still (D.seen disk.old) (D.seen disk.new) }
+    ensures images { NoMore (D.images disk.old) (D.images disk.new) }
+    ensures moments { Over D.moment D.since disk.old disk.new (D.images disk.old) }
+    ensures trail { Extends (D.trail disk.old) (D.trail disk.new) }
+    ensures syncs { (D.syncs disk.old ≤ D.syncs disk.new) × (D.syncs disk.new ≤ D.syncs disk.old + 1) }
+{
+    match read_synced(alloc, disk) {
+        Ok(bytes) => batches_of(alloc, bytes.as_slice()),
         Err(fault) => Err(fault),
     }
 }
@@ -194,39 +214,4 @@ fn gated(alloc: Global, bytes: Vec<u8>) -> Result<(u64, Bytes), OpenFault>
         Ok(gate) => Ok((gate, Bytes::from_vec(bytes))),
         Err(fault) => Err(fault),
     }
-}
-
-// The place of the first gate that isn't open.
-fn gate_of(alloc: Global, bytes: &[u8]) -> Result<u64, OpenFault>
-    ensures found { IfOk result (λ gate. IsGateOf bytes.now gate) }
-    ensures refused { IfErr result (λ e. GateFits e bytes.now) }
-{
-    if !is_headed(bytes) {
-        return Err(OpenFault::NotJournal);
-    }
-    let mut gate = HEADER.len() as u64;
-    while bytes[gate as usize] == 1 {
-        match read_batch(alloc, bytes, gate + 1) {
-            Ok(batch) => gate = batch.next,
-            Err(fault) => return Err(open_fault(fault)),
-        }
-    }
-    Ok(gate)
-}
-
-// The fault of a journal whose open gate has no batch behind it.
-fn open_fault(fault: BatchFault) -> OpenFault
-    ensures { result ≡ fault_of fault }
-{
-    match fault {
-        BatchFault::NotBatch { at } => OpenFault::Damaged { at },
-        BatchFault::NoMemory => OpenFault::NoMemory,
-    }
-}
-
-// Whether the bytes have a whole header and a gate behind it.
-fn is_headed(bytes: &[u8]) -> bool
-    ensures { IsTrue result ↔ IsHeaded bytes.now }
-{
-    bytes.len() > HEADER.len() && &bytes[..HEADER.len()] == HEADER.as_slice()
 }

@@ -1,12 +1,12 @@
 //! Reads the fields of a batch from left to right.
-ghost use Rattle.std.specs.Prelude.{◌≡◌, ◌+◌, ◌-◌, ◌^◌, ◌<◌, Err};
+ghost use Rattle.std.specs.Prelude.{◌≡◌, ◌+◌, ◌-◌, ◌^◌, ◌<◌, [], IfOk, Err};
 ghost use Rattle.message_core.specs.Reading.{Gives, Decodes};
 ghost use Rattle.message_core.specs.declared.numbers.ReadFault.TheVariants.{Left};
 ghost use Rattle.journal_format.specs.Reading.{name_at, flagged, persistent_of, message_at, item_at, many_at, txn_at, txns_at, batch_at};
 
 use crate::items::Item;
 use crate::limits::{LONGEST_QUEUE_NAME, MOST_ITEMS};
-use byte_lists::Bytes;
+use byte_lists::{Bytes, NoMemory};
 use message_core::numbers::{ReadFault, byte_of, bytes_of, u32_of, u64_of};
 use message_core::{DecodeFault, Message};
 use sqlite_items::Items;
@@ -14,6 +14,9 @@ use std::alloc::Global;
 
 /// The place in a message of the flag that says whether it is persistent.
 const FLAG: usize = 8;
+
+/// For how many items of a list room is taken before they are read. More may be claimed than there are.
+const FEW: u32 = 4;
 
 /// A queue's name, and the bytes after it.
 #[tactic(auto, unfolding(crate::specs::Reading::name_at))]
@@ -110,11 +113,21 @@ fn item_of(alloc: Global, bytes: &[u8]) -> Result<(Item, &[u8]), ReadFault>
     }
 }
 
+/// A list for so many, with room for the first few.
+fn list_for<T>(alloc: Global, count: u32) -> Result<Vec<T>, NoMemory>
+    ensures { IfOk result (λ v. v.items ≡ []) }
+{
+    match Vec::with_capacity(alloc, count.min(FEW) as usize) {
+        Ok(list) => Ok(list),
+        Err(_) => Err(NoMemory),
+    }
+}
+
 /// So many items, and the bytes after them.
 fn items_of(alloc: Global, count: u32, bytes: &[u8]) -> Result<(Items<Item>, &[u8]), ReadFault>
     ensures { Gives (λ x. (x.0, x.1.now)) result (many_at item_at count bytes.now) }
 {
-    let mut items = Vec::new(alloc);
+    let mut items = list_for(alloc, count)?;
     let mut rest = bytes;
     for _ in 0..count {
         let (item, after) = item_of(alloc, rest)?;
@@ -145,7 +158,7 @@ fn list_of(
 ) -> Result<(Items<Items<Item>>, &[u8]), ReadFault>
     ensures { Gives (λ x. (x.0, x.1.now)) result (many_at txn_at count bytes.now) }
 {
-    let mut txns = Vec::new(alloc);
+    let mut txns = list_for(alloc, count)?;
     let mut rest = bytes;
     for _ in 0..count {
         let (txn, after) = txn_of(alloc, rest)?;

@@ -1,4 +1,3 @@
 pub mod KeySets
-pub mod Steps
 pub mod Passes
 pub mod LiveOnes

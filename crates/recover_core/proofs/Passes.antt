@@ -14,7 +14,8 @@ use Rattle.recover_core.specs.declared.kept.Kept.{Kept}
 use Rattle.recover_core.specs.declared.keys.Key.{Key}
 use Rattle.recover_core.specs.Places.{Found, found, founds_in, founds_of, founds, kept}
 use Rattle.recover_core.specs.Passed.{Passed, first_place, IsBefore, founds_read}
-use Rattle.recover_core.specs.Recovered.{batches_from, AreBatches, IsRecovered}
+use Rattle.journal_core.specs.Opening.{batches_from, AreBatches}
+use Rattle.recover_core.specs.Recovered.{IsRecovered}
 
 -- the last of some, and its bytes
 last_of : {A : Type 0} (f : A → List ℕ) (all left : List A) (x : A) → all ≡ left ++ x ∷ [] → length (flat_map f all) ≡ length (flat_map f left) + length (f x)

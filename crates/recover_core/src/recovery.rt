@@ -9,7 +9,7 @@ ghost use Rattle.recover_core.specs.Opened.{OpenedWith};
 use crate::contents::contents_of;
 use crate::kept::Recovered;
 use disk_core::Disk;
-use journal_core::{Journal, OpenFault, open_bytes};
+use journal_core::{Journal, OpenFault, open_batches};
 use std::alloc::Global;
 
 /// Opens the journal on a disk, as `open_journal` does, and tells what it still holds: the number of its transactions,
@@ -28,8 +28,8 @@ pub fn recover<D: Disk>(alloc: Global, disk: D) -> Result<(Journal<D>, Recovered
     ensures syncs { (D.syncs disk ≤ D.syncs (left_by (λ x. x.0.disk) result))
         × (D.syncs (left_by (λ x. x.0.disk) result) ≤ D.syncs disk + 1) }
 {
-    match open_bytes(alloc, disk) {
-        Ok((journal, bytes)) => match contents_of(alloc, bytes.as_slice()) {
+    match open_batches(alloc, disk) {
+        Ok((journal, batches)) => match contents_of(alloc, batches) {
             Ok(recovered) => Ok((journal, recovered)),
             Err(_) => Err((OpenFault::NoMemory, journal.into_disk())),
         },

@@ -7,7 +7,7 @@ use Rattle.journal_format.proofs.reading.list_of.Goals as goal
 
 pub returns-in_err-txn : goal.returns-in_err-txn
 returns-in_err-txn c =
-    let p = err_from_is_err_and c.from_residual.result c.from_residual.ensures.1 in
+    let p = err_from_is_err_and c.from_residual-in_err-txn.result c.from_residual-in_err-txn.ensures.1 in
     rw (p.1, p.2) (ends txn_at c.in_err-txn.field-0.0 c.loop.txns.items c.args.count c.loop.counter c.loop.rest.now (many_at txn_at c.args.count c.args.bytes.now) c.loop-test.true c.in_err-txn.ensures c.loop.invariant)
 
 pub loop-preserved : goal.loop-preserved

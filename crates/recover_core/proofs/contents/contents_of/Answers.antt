@@ -3,7 +3,7 @@ use Rattle.recover_core.proofs.Passes.{before_all, recovered}
 use Rattle.recover_core.proofs.contents.contents_of.Goals as goal
 
 pub live_of-requires : goal.live_of-requires
-live_of-requires c = before_all c.args.bytes.now c.in_ok-commits.commits c.in_ok-commits.batches.items c.in_ok-commits.ensures
+live_of-requires c = before_all c.requires.0 c.args.batches.commits c.args.batches.read.items c.requires.1
 
-pub returns : goal.returns
-returns c = recovered c.args.bytes.now c.in_ok-commits.commits c.in_ok-commits.batches.items c.from_vec.result c.in_ok-commits.ensures (c.from_vec.ensures ∙ c.in_ok-entries.ensures)
+pub returns-in-Ok : goal.returns-in-Ok
+returns-in-Ok c = λ bytes are. recovered bytes c.args.batches.commits c.args.batches.read.items c.from_vec.result are (c.from_vec.ensures ∙ c.in-Ok.ensures)

@@ -1,7 +1,7 @@
 use Rattle.std.proofs.Common.{◌++◌, subst, sym}
 use Rattle.journal_core.specs.Opening.{GateFits}
 use Rattle.journal_core.proofs.Gates.{next_front, damaged_fits, gate_found}
-use Rattle.journal_core.proofs.opening.gate_of.Goals as goal
+use Rattle.journal_core.proofs.walk.gate_of.Goals as goal
 
 pub loop-gate-preserved : goal.loop-gate-preserved
 loop-gate-preserved c =

@@ -1,7 +1,7 @@
 use Rattle.std.proofs.Common.{◌<◌, ◌-◌, List, length, take}
 use Rattle.journal_format.specs.Spelling.{Txn}
 use Rattle.journal_format.specs.Journal.{Front}
-use Rattle.journal_core.proofs.opening.gate_of.Given as goal
+use Rattle.journal_core.proofs.walk.gate_of.Given as goal
 
 abbrev pub invariant-loop-gate : goal.invariant-loop-gate
 invariant-loop-gate l = (l.gate < length l.bytes) × ((C : List Txn) × Front (take l.gate l.bytes) C)
