@@ -1,0 +1,3 @@
+pub mod Both
+pub mod Numbering
+pub mod CommandLines

@@ -1,0 +1,5 @@
+pub mod Numbers
+pub mod Tasks
+pub mod JournalTasks
+pub mod Wanted
+pub mod Found
