@@ -8,15 +8,16 @@ use Rattle.script_read.specs.Phases.{Actors}
 use Rattle.target_core.specs.Seats.{Seat, Seats, standing}
 use Rattle.account_core.specs.Phases.{ArePhases, nothing}
 use Rattle.account_core.specs.Runs.{Ran}
-use Rattle.broker_top.specs.Ends.{TaskEnds, Tells}
+use Rattle.broker_top.specs.Ends.{TaskEnds}
+use Rattle.command_status.specs.Told.{Tells}
 use Rattle.broker_top.specs.Input.{IsWhole}
 use Rattle.broker_top.specs.Job.{IsRunnable, Script, input_says}
 use Rattle.broker_top.specs.Phases.{RanTo, RunsPhases}
-use Rattle.broker_top.specs.Words.{run}
+use Rattle.command_line.specs.Tasks.{run}
 use Rattle.broker_top.specs.World.{World}
 use Rattle.broker_top.specs.declared.phases.Stopped.TheVariants as stopped
-use Rattle.broker_top.specs.declared.status.Status.{Status}
-use Rattle.broker_top.specs.declared.status.Status.TheVariants.{Done, NoMemory, WriteFault}
+use Rattle.command_status.specs.declared.status.Status.{Status}
+use Rattle.command_status.specs.declared.status.Status.TheVariants.{Done, NoMemory, WriteFault}
 
 pub ran_of : (script : Script) (some : ℕ) (handed back : List Seat) (seats seats' : Seats) (text : List ℕ) → seats ≡ map Some handed → back ≡ standing seats' → RanTo script some seats seats' text → Ran script.defs (take some script.phases) handed back text
 ran_of script some handed back seats seats' text opened closed r = record {

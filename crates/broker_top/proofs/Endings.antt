@@ -6,14 +6,15 @@ use Rattle.broker_top.specs.declared.faults.InputFault.{InputFault}
 use Rattle.broker_top.specs.declared.faults.InputFault.TheVariants as input
 use Rattle.broker_top.specs.declared.input.Unread.{Unread}
 use Rattle.broker_top.specs.declared.input.Unread.TheVariants as not_read
-use Rattle.broker_top.specs.declared.status.Status.{Status}
-use Rattle.broker_top.specs.declared.status.Status.TheVariants.{InputRefused, NoMemory}
-use Rattle.broker_top.specs.Ends.{Comes, IsRefused, IsShort, LeavesSource, ReadFaults, Refuses, TaskEnds, Tells, TellsRefusal, WantsMemory}
+use Rattle.command_status.specs.declared.status.Status.{Status}
+use Rattle.command_status.specs.declared.status.Status.TheVariants.{InputRefused, NoMemory}
+use Rattle.broker_top.specs.Ends.{Comes, IsRefused, IsShort, LeavesSource, ReadFaults, Refuses, TaskEnds, TellsRefusal, WantsMemory}
+use Rattle.command_status.specs.Told.{Tells}
 use Rattle.broker_top.specs.Faults.{OfScript, fault_text, line_cause, line_text}
 use Rattle.broker_top.specs.Input.{IsTooLarge, LeavesUnread, too_large_text}
 use Rattle.broker_top.specs.Job.{GivesJob, IsRefusedFor, Script}
 use Rattle.broker_top.specs.Unread.{unread_status, unread_text}
-use Rattle.broker_top.specs.Words.{Task, gen, run, select}
+use Rattle.command_line.specs.Tasks.{Task, gen, run, select}
 use Rattle.broker_top.specs.World.{World, Unserved}
 
 -- before anything ran

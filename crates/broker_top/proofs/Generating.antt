@@ -18,17 +18,18 @@ use Rattle.account_core.specs.Accounts.{Account}
 use Rattle.account_core.specs.Phases.{ArePhases, nothing}
 use Rattle.account_core.specs.Texts.{run_text}
 use Rattle.broker_top.specs.Built.{is_built_line}
-use Rattle.broker_top.specs.Ends.{LeavesSource, TaskEnds, Tells}
+use Rattle.broker_top.specs.Ends.{LeavesSource, TaskEnds}
+use Rattle.command_status.specs.Told.{Tells}
 use Rattle.broker_top.specs.Generated.{Tallied, Tallies, script_of}
 use Rattle.broker_top.specs.GeneratedEnds.{EndsGenerated, TellsSummary, TellsTallied}
 use Rattle.broker_top.specs.Job.{IsRunnable}
 use Rattle.broker_top.specs.Phases.{RanTo}
 use Rattle.broker_top.specs.Puts.{all_puts, is_put}
 use Rattle.broker_top.specs.Summary.{all_bytes, entries_after, summary, summary_line}
-use Rattle.broker_top.specs.Words.{gen}
+use Rattle.command_line.specs.Tasks.{gen}
 use Rattle.broker_top.specs.World.{World}
-use Rattle.broker_top.specs.declared.status.Status.{Status}
-use Rattle.broker_top.specs.declared.status.Status.TheVariants.{Done, NoMemory}
+use Rattle.command_status.specs.declared.status.Status.{Status}
+use Rattle.command_status.specs.declared.status.Status.TheVariants.{Done, NoMemory}
 use Rattle.broker_top.specs.declared.tally.Tally.{Tally}
 use Rattle.broker_top.proofs.Bytes.{phases_bytes, phases_ok}
 use Rattle.broker_top.proofs.Ended.{ran_of}

@@ -1,5 +1,3 @@
-pub mod Both
-pub mod CommandLines
 pub mod Messages
 pub mod Endings
 pub mod Firsts
@@ -10,8 +8,6 @@ pub mod Names
 pub mod OnePhases
 pub mod Stopping
 pub mod Ended
-pub mod Journals
-pub mod Numbering
 pub mod Tallying
 pub mod Counting
 pub mod Bytes

@@ -35,7 +35,7 @@ use Rattle.broker_top.specs.Job.{IsRunnable, Script}
 use Rattle.broker_top.specs.OnePhase.{IsEmpty, Leaves, MayPlay}
 use Rattle.broker_top.specs.Phases.{RanTo}
 use Rattle.broker_top.specs.Puts.{all_puts, is_put}
-use Rattle.broker_top.proofs.Both.{both_first, both_second}
+use Rattle.command_line.proofs.Both.{both_first, both_second}
 
 -- What is built
 

@@ -1,11 +1,11 @@
 -- how a call of the program ends, by all that its words may ask for
 use Rattle.std.specs.Prelude.{◌≡◌, Option, Some, None}
-use Rattle.broker_top.specs.declared.status.Status.{Status}
-use Rattle.broker_top.specs.Disks.{Medium, IsSame}
+use Rattle.command_status.specs.declared.status.Status.{Status}
+use Rattle.journal_commands.specs.Disks.{Medium, IsSame}
 use Rattle.broker_top.specs.Ends.{Ends}
-use Rattle.broker_top.specs.JournalEnds.{JournalEnds}
-use Rattle.broker_top.specs.JournalWords.{JournalTask}
-use Rattle.broker_top.specs.Words.{Task}
+use Rattle.journal_commands.specs.JournalEnds.{JournalEnds}
+use Rattle.command_line.specs.JournalTasks.{JournalTask}
+use Rattle.command_line.specs.Tasks.{Task}
 use Rattle.broker_top.specs.World.{World, Unserved}
 
 -- nothing was read, and no target was served

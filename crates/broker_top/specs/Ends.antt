@@ -1,9 +1,9 @@
 -- which status a call ends with, and what it writes
 use Rattle.std.specs.Prelude.{◌≡◌, ℕ, ◌+◌, ◌≤◌, ◌⊎◌, Option, Some, None, List, ◌++◌, length, take, codes, Ok}
-use Rattle.outside_io.specs.Told.{Adds}
 use Rattle.account_core.specs.Runs.{Ran}
-use Rattle.broker_top.specs.declared.status.Status.{Status}
-use Rattle.broker_top.specs.declared.status.Status.TheVariants.{Done, InputRefused, WordsRefused, ReadFault, WriteFault, DeviceFault, NoMemory, JournalRefused}
+use Rattle.command_status.specs.Told.{Tells}
+use Rattle.command_status.specs.declared.status.Status.{Status}
+use Rattle.command_status.specs.declared.status.Status.TheVariants.{Done, InputRefused, WordsRefused, ReadFault, WriteFault, DeviceFault, NoMemory, JournalRefused}
 use Rattle.broker_top.specs.declared.faults.InputFault.{InputFault}
 use Rattle.broker_top.specs.declared.faults.InputFault.TheVariants as input
 use Rattle.broker_top.specs.Faults.{fault_text}
@@ -11,7 +11,7 @@ use Rattle.broker_top.specs.Input.{IsTooLarge, IsWhole}
 use Rattle.broker_top.specs.Job.{IsRefusedFor, IsRunnable, Script, input_says}
 use Rattle.broker_top.specs.Select.{IsInputRefused, IsSelected, IsSelectorRefused}
 use Rattle.broker_top.specs.Generated.{IsSummed, IsUnsummed}
-use Rattle.broker_top.specs.Words.{Task, gen, run, select}
+use Rattle.command_line.specs.Tasks.{Task, gen, run, select}
 use Rattle.broker_top.specs.World.{World, Unserved}
 
 -- Runs
@@ -92,12 +92,6 @@ ReadFaults NoMemory faults faults' = faults' ≡ faults
 ReadFaults WriteFault faults faults' = faults' ≡ faults
 ReadFaults DeviceFault faults faults' = faults' ≡ faults
 ReadFaults JournalRefused faults faults' = faults' ≡ faults
-
--- The status's text was written, and the sink didn't fail. Or it failed once, and some front of the text that goes with another status was written.
-abbrev pub Tells : Status → Status → List ℕ → Option (List ℕ) → Option (List ℕ) → ℕ → ℕ → Type 0
-Tells result status text written written' faults faults' =
-    ((result ≡ status) × (faults' ≡ faults) × Adds written written' text)
-    ⊎ ((result ≡ WriteFault) × (faults' ≡ faults + 1) × ((n : ℕ) × (n ≤ length text) × Adds written written' (take n text)))
 
 -- this text of a refusal was told, or want of memory
 abbrev pub TellsRefusal : List ℕ → Status → Option (List ℕ) → Option (List ℕ) → ℕ → ℕ → Type 0

@@ -3,11 +3,11 @@ use Rattle.std.specs.Prelude.{ℕ, ◌⊎◌, Option, List, codes, Result, Ok, E
 use Rattle.byte_lists.specs.declared.NoMemory.{NoMemory as Memory}
 use Rattle.gen_core.specs.Generated.{body_bytes}
 use Rattle.target_core.specs.Seats.{Seat}
-use Rattle.broker_top.specs.Ends.{Tells}
+use Rattle.command_status.specs.Told.{Tells}
 use Rattle.broker_top.specs.Generated.{IsSummed, IsUnsummed}
 use Rattle.broker_top.specs.Summary.{summary_line}
-use Rattle.broker_top.specs.declared.status.Status.{Status}
-use Rattle.broker_top.specs.declared.status.Status.TheVariants.{Done, NoMemory}
+use Rattle.command_status.specs.declared.status.Status.{Status}
+use Rattle.command_status.specs.declared.status.Status.TheVariants.{Done, NoMemory}
 use Rattle.broker_top.specs.declared.tally.Tally.{Tally}
 
 -- the summary was told, or want of memory

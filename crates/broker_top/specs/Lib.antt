@@ -5,11 +5,7 @@ pub mod Job
 pub mod Faults
 pub mod Text
 pub mod Input
-pub mod Codes
-pub mod Numbers
-pub mod Words
 pub mod World
-pub mod CommandLine
 pub mod Select
 pub mod OnePhase
 pub mod Phases
@@ -18,8 +14,4 @@ pub mod Generated
 pub mod Ends
 pub mod GeneratedEnds
 pub mod Unread
-pub mod JournalWords
-pub mod Disks
-pub mod Recovered
-pub mod JournalEnds
 pub mod Commands

@@ -3,8 +3,8 @@ use Rattle.std.specs.Prelude.{ℕ, List, codes}
 use Rattle.broker_top.specs.Input.{too_large_text}
 use Rattle.broker_top.specs.declared.input.Unread.{Unread}
 use Rattle.broker_top.specs.declared.input.Unread.TheVariants as unread
-use Rattle.broker_top.specs.declared.status.Status.{Status}
-use Rattle.broker_top.specs.declared.status.Status.TheVariants.{InputRefused, ReadFault, NoMemory}
+use Rattle.command_status.specs.declared.status.Status.{Status}
+use Rattle.command_status.specs.declared.status.Status.TheVariants.{InputRefused, ReadFault, NoMemory}
 
 -- the status that tells why
 abbrev pub unread_status : Unread → Status

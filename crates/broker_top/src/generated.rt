@@ -13,11 +13,10 @@ ghost use Rattle.broker_top.specs.Summary.{HasRoom, summary_line};
 
 use crate::job::Job;
 use crate::phases::none_left;
-use crate::status::Status;
 use crate::tally::{Tally, add_logs, entries_in, nothing_counted};
-use crate::telling::{tell, tell_no_memory};
 use acts_core::RestEntry;
 use byte_lists::NoMemory;
+use command_status::{Status, tell, tell_no_memory};
 use defs_read::Defs;
 use gen_core::{MOST_MESSAGES, body_bytes, generate};
 use outside_io::{Gate, Sink};

@@ -8,14 +8,14 @@ ghost use Rattle.broker_top.specs.Input.{input_limit};
 ghost use Rattle.broker_top.specs.Select.{AreMessages, IsFirstRefused, TellsMessage, truth_line, truth_word, truths};
 ghost use Rattle.broker_top.specs.Text.{written_of};
 ghost use Rattle.target_core.specs.Seats.{Seat};
-ghost use Rattle.broker_top.specs.Words.{select};
+ghost use Rattle.command_line.specs.Tasks.{select};
 ghost use Rattle.broker_top.specs.World.{world};
 
 use crate::faults::InputFault;
 use crate::input::read_input;
-use crate::status::Status;
-use crate::telling::{refuse, refuse_selector, tell, tell_no_memory, tell_unread};
+use crate::telling::{refuse, refuse_selector, tell_unread};
 use crate::text::Text;
+use command_status::{Status, tell, tell_no_memory};
 use outside_io::{Sink, Source, write_all};
 use script_read::{LineFault, ScriptFault, first_line, has_nothing, read_message};
 use selector_eval::{Truth, truth};

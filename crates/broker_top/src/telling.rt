@@ -1,42 +1,19 @@
-//! Writes the text of a status.
-ghost use Rattle.std.specs.Prelude.{◌≡◌, IfOk, codes, string_bytes};
-ghost use Rattle.broker_top.specs.Ends.{Refuses, Tells, TellsRefusal};
+//! Writes why an input or a selector is refused.
+ghost use Rattle.std.specs.Prelude.{◌≡◌, IfOk, string_bytes};
+ghost use Rattle.broker_top.specs.Ends.{Refuses, TellsRefusal};
+ghost use Rattle.command_status.specs.Told.{Tells};
 ghost use Rattle.defs_read.specs.declared.faults.DefsFault.TheVariants as defs;
 ghost use Rattle.broker_top.specs.Faults.{defs_told, fault_text, kind_name, line_text, selector_text};
 ghost use Rattle.broker_top.specs.Unread.{unread_status, unread_text};
 
 use crate::faults::{InputFault, defs_cause};
 use crate::input::Unread;
-use crate::status::Status;
 use byte_lists::NoMemory;
+use command_status::{Status, tell, tell_no_memory};
 use defs_read::DefsFault;
-use outside_io::{Sink, write_all};
+use outside_io::Sink;
 use selector_read::Kind;
 use std::alloc::Global;
-
-/// Writes the text of a status, and answers the status, or that the sink failed.
-pub(crate) fn tell<K: Sink>(out: &mut K, status: Status, text: &[u8]) -> Status
-    ensures { Tells result status text.now (K.written out.old) (K.written out.new) (K.faults out.old) (K.faults out.new) }
-{
-    match write_all(out, text) {
-        Ok(()) => status,
-        Err(_) => Status::WriteFault,
-    }
-}
-
-/// Tells of want of memory.
-pub(crate) fn tell_no_memory<K: Sink>(out: &mut K) -> Status
-    ensures { Tells result Status.NoMemory (codes "fault: memory\n") (K.written out.old) (K.written out.new) (K.faults out.old) (K.faults out.new) }
-{
-    tell(out, Status::NoMemory, b"fault: memory\n")
-}
-
-/// Tells that the words are refused.
-pub(crate) fn refuse_words<K: Sink>(out: &mut K) -> Status
-    ensures { Tells result Status.WordsRefused (codes "fault: words\n") (K.written out.old) (K.written out.new) (K.faults out.old) (K.faults out.new) }
-{
-    tell(out, Status::WordsRefused, b"fault: words\n")
-}
 
 /// Tells why the input was not read whole.
 pub(crate) fn tell_unread<K: Sink>(out: &mut K, unread: Unread) -> Status

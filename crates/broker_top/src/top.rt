@@ -1,25 +1,24 @@
 //! The top calls.
-ghost use Rattle.std.specs.Prelude.{◌≡◌, [], map, string_bytes, vec_len};
+ghost use Rattle.std.specs.Prelude.{◌≡◌, [], Option, map, string_bytes, vec_len};
 ghost use Rattle.broker_top.specs.Commands.{CommandEnds};
-ghost use Rattle.broker_top.specs.Disks.{medium};
+ghost use Rattle.journal_commands.specs.Disks.{medium};
 ghost use Rattle.broker_top.specs.Ends.{Ends, TaskEnds};
-ghost use Rattle.broker_top.specs.JournalWords.{asked_journal};
-ghost use Rattle.broker_top.specs.Words.{asked, run, selecting};
+ghost use Rattle.command_line.specs.JournalTasks.{JournalTask, asked_journal};
+ghost use Rattle.command_line.specs.Tasks.{Task, asked, run, selecting};
+ghost use Rattle.command_line.specs.Wanted.{Asks};
 ghost use Rattle.broker_top.specs.World.{world};
 
 use crate::generated::run_generated;
-use crate::initialize::initialize;
 use crate::input::read_input;
 use crate::job::read_job;
-use crate::journal_words::{is_init, is_recover};
 use crate::phases::{Stopped, run_phases};
-use crate::recovering::tell_journal;
 use crate::select::select_messages;
-use crate::status::Status;
-use crate::telling::{refuse, refuse_words, tell_no_memory, tell_unread};
-use crate::words::{Asked, is_listed, is_select, read_words};
+use crate::telling::{refuse, tell_unread};
 use byte_lists::NoMemory;
+use command_line::{Asked, is_listed, is_select, read_words};
+use command_status::{Status, refuse_words, tell_no_memory};
 use disk_core::Disk;
+use journal_commands::{initialize, tell_journal};
 use outside_io::{Gate, Sink, Source};
 use std::alloc::Global;
 use std::sync::Wait;
@@ -60,33 +59,46 @@ fn run_script<R: Threads + Wait + Clone + Send + Sync + Drop, S: Source, K: Sink
     (status, roster.finish())
 }
 
-/// Does what these words ask for that has nothing to do with a journal.
-fn run_or_select<R: Threads + Wait + Clone + Send + Sync + Drop, S: Source, K: Sink, G: Gate>(
+/// Does what was asked for.
+fn do_asked<R: Threads + Wait + Clone + Send + Sync + Drop, S: Source, K: Sink, D: Disk, G: Gate>(
     rt: &R,
     alloc: Global,
-    words: &[String],
+    asked: Asked,
     input: &mut S,
     out: &mut K,
+    disk: D,
     gate: &G,
     targets: Vec<Box<dyn Target>>,
-) -> (Status, Vec<Box<dyn Target>>)
+) -> (Status, D, Vec<Box<dyn Target>>)
     requires targets { vec_len targets ≡ 64 }
-    ensures { Ends (asked (map string_bytes words.now)) result.0
+    requires asked { (task : Option Task) × (journal : Option JournalTask) × Asks asked task journal }
+    ensures { (task : Option Task) (journal : Option JournalTask) → Asks asked.entry task journal →
+        CommandEnds journal task result.0
         (world S.left S.faults K.written K.faults input.old out.old
         (map seat targets.items))
         (world S.left S.faults K.written K.faults input.new out.new
-        (map seat result.1.items)) }
+        (map seat result.2.items))
+        (medium D.seen D.images D.moment D.since D.trail D.faults D.syncs disk)
+        (medium D.seen D.images D.moment D.since D.trail D.faults D.syncs result.1) }
 {
-    if !is_listed(words) {
-        return (refuse_words(out), targets);
-    }
-    match read_words(alloc, words) {
-        Ok(Asked::Run) => run_script(rt, alloc, input, out, gate, targets),
-        Ok(Asked::Select(text)) => (select_messages(alloc, text, input, out), targets),
-        Ok(Asked::Generate { number, count }) => {
-            run_generated(rt, alloc, number, count, out, gate, targets)
+    match asked {
+        Asked::Run => {
+            let (status, targets) = run_script(rt, alloc, input, out, gate, targets);
+            (status, disk, targets)
         }
-        Err(NoMemory) => (tell_no_memory(out), targets),
+        Asked::Select(text) => (select_messages(alloc, text, input, out), disk, targets),
+        Asked::Generate { number, count } => {
+            let (status, targets) = run_generated(rt, alloc, number, count, out, gate, targets);
+            (status, disk, targets)
+        }
+        Asked::Init(_) => {
+            let (status, disk) = initialize(alloc, out, disk);
+            (status, disk, targets)
+        }
+        Asked::Recover(_) => {
+            let (status, disk) = tell_journal(alloc, out, disk);
+            (status, disk, targets)
+        }
     }
 }
 
@@ -132,16 +144,13 @@ pub fn run_command<
         (medium D.seen D.images D.moment D.since D.trail D.faults D.syncs disk)
         (medium D.seen D.images D.moment D.since D.trail D.faults D.syncs result.1) }
 {
-    if is_init(words) {
-        let (status, disk) = initialize(alloc, out, disk);
-        return (status, disk, targets);
+    if !is_listed(words) {
+        return (refuse_words(out), disk, targets);
     }
-    if is_recover(words) {
-        let (status, disk) = tell_journal(alloc, out, disk);
-        return (status, disk, targets);
+    match read_words(alloc, words) {
+        Ok(asked) => do_asked(rt, alloc, asked, input, out, disk, gate, targets),
+        Err(NoMemory) => (tell_no_memory(out), disk, targets),
     }
-    let (status, targets) = run_or_select(rt, alloc, words, input, out, gate, targets);
-    (status, disk, targets)
 }
 
 /// Tells of messages what a selector is, for the words `select` and the selector's text: it tests the text, reads the
@@ -167,7 +176,7 @@ pub fn select_command<S: Source, K: Sink>(
     }
     match read_words(alloc, words) {
         Ok(Asked::Select(text)) => select_messages(alloc, text, input, out),
-        Ok(Asked::Run) | Ok(Asked::Generate { .. }) => unreachable!(),
+        Ok(_) => unreachable!(),
         Err(NoMemory) => tell_no_memory(out),
     }
 }

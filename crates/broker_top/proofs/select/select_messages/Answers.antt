@@ -3,7 +3,7 @@ use Rattle.selector_read.specs.Reading.{selector_of}
 use Rattle.selector_read.specs.Selectors.{IsOutcome, reads, refused}
 use Rattle.broker_top.specs.Faults.{selector_text}
 use Rattle.broker_top.specs.Select.{IsRead}
-use Rattle.broker_top.specs.Words.{select}
+use Rattle.command_line.specs.Tasks.{select}
 use Rattle.broker_top.proofs.Endings.{fault_ends, of_script, refusal_ends, unread_ends}
 use Rattle.broker_top.proofs.select.select_messages.Goals as goal
 

@@ -1,6 +1,6 @@
 use Rattle.std.proofs.Common.{inl, inr, refl, sym}
 use Rattle.broker_top.specs.Job.{script_in}
-use Rattle.broker_top.specs.Words.{run}
+use Rattle.command_line.specs.Tasks.{run}
 use Rattle.broker_top.proofs.Ended.{ends_cut, ends_done, ends_short}
 use Rattle.broker_top.proofs.Endings.{err_says, fault_ends, unread_ends}
 use Rattle.broker_top.proofs.top.run_script.Goals as goal
