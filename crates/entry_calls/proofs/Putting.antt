@@ -1,5 +1,5 @@
 -- the turns of a put together, and the whole put
-use Rattle.std.proofs.Common.{◌≡◌, ℕ, suc, ◌-◌, ◌≤◌, ◌<◌, None, List, [], ◌∷◌, ◌++◌, refl, sym, ap, ◌∙◌, subst, ⊎_elim, append-nil, eq-eqb, arith}
+use Rattle.std.proofs.Common.{◌≡◌, ℕ, suc, ◌+◌, ◌*◌, ◌-◌, ◌≤◌, ◌<◌, None, List, [], ◌∷◌, ◌++◌, refl, sym, ap, ◌∙◌, subst, ⊎_elim, append-nil, eq-eqb, arith}
 use Rattle.queue_model.specs.declared.deeds.Deed.{Deed}
 use Rattle.queue_model.specs.declared.queues.Queue.{Queue}
 use Rattle.queue_model.specs.declared.rows.Slip.{Slip}
@@ -22,26 +22,33 @@ use Rattle.entry_table.specs.declared.pass.Pass.{Pass}
 use Rattle.entry_table.specs.declared.view.Shape.{Shape}
 use Rattle.entry_table.specs.declared.view.View.{View}
 use Rattle.entry_table.specs.Helps.{Helpable}
-use Rattle.entry_table.specs.Passes.{Kept, Did, view, opening, seen, state, shown, callers, consumers, share}
-use Rattle.entry_table.specs.Plays.{Steps, Shows, DidDraw, IsDrawnBy}
+use Rattle.entry_table.specs.Passes.{IsPassOf, Kept, Did, view, opening, seen, state, shown, callers, consumers, share}
+use Rattle.entry_table.specs.Plays.{Steps, Shows, DidDraw}
 use Rattle.entry_table.specs.Sights.{build_of, sight}
+use Rattle.entry_table.specs.Tries.{tries}
 use Rattle.entry_table.specs.Views.{caller_of, is_drawing, drawing_at, blank_drawing}
+use Rattle.entry_table.proofs.Following.{place_low}
 use Rattle.entry_table.proofs.Sighting.{stepped}
-use Rattle.entry_calls.specs.Appends.{Ran, Appended, Passed, enters}
+use Rattle.entry_calls.specs.Appends.{Ran, Appended, Drafts, Passed, enters}
 use Rattle.entry_calls.proofs.Running.{ran_then, ran_end, ran_none, stop_ran, known_stop, list_stop, place_stop}
 
 -- Turns
 
 -- the last turn, after those before it
 pub appended_after : (p now new : Pass) (row late tail stop : ℕ) (slip : Slip) (l m : Load) → Ran p now [] → late ≡ row → m ≡ l → IsStop (state now) slip.list tail → IsStop (state now) slip.list stop → reach (state now) tail ≤ reach (state now) stop
-    → Appended now new late stop slip m → Appended p new row tail slip l
-appended_after p now new row late tail stop slip l m ran same_row same_load began stands past b =
+    → tries (shown now) + reach (state now) tail ≤ tries (shown p) + reach (state now) stop → Appended now new late stop slip m → Appended p new row tail slip l
+appended_after p now new row late tail stop slip l m ran same_row same_load began stands past tried b =
     let a : Appended now new row stop slip l = subst (λ (z : ℕ × Load). Appended now new z.0 stop slip z.1) (λ i. (same_row i, same_load i)) b in
     let k = a.ran.keeps.kept in
     let x = (stop_ran now new slip.list tail k.opening a.ran.did.prefix began).1 in
     let y = (stop_ran now new slip.list stop k.opening a.ran.did.prefix stands).1 in
     let behind = a.behind in
-    record { ran = ran_then p now new (enters row slip l ∷ []) ran a.ran; there = a.there; behind = omega (arith, x, y, past, behind) }
+    let last = a.tries in record {
+      ran = ran_then p now new (enters row slip l ∷ []) ran a.ran;
+      there = a.there;
+      behind = omega (arith, x, y, past, behind);
+      tries = omega (arith, x, y, tried, last);
+    }
 
 module _ {C : Type 0} (p now new : Pass) (draft back : Draft C) (tail stop next : ℕ) (slip : Slip) (ran : Ran p now []) (stands : IsStop (state now) slip.list stop) (b : Passed now new draft back stop next slip) where
   -- fewer places are left
@@ -56,6 +63,12 @@ module _ {C : Type 0} (p now new : Pass) (draft back : Draft C) (tail stop next 
       let x = (stop_ran now new slip.list tail b.ran.keeps.kept.opening b.ran.did.prefix began).1 in
       let y = (stop_ran now new slip.list stop b.ran.keeps.kept.opening b.ran.did.prefix stands).1 in
       let more = b.more in omega (arith, x, y, past, more)
+
+  pub turn_tries : IsStop (state now) slip.list tail → tries (shown now) + reach (state now) tail ≤ tries (shown p) + reach (state now) stop → tries (shown new) + reach (state new) tail ≤ tries (shown p) + reach (state new) next
+  turn_tries began tried =
+      let x = (stop_ran now new slip.list tail b.ran.keeps.kept.opening b.ran.did.prefix began).1 in
+      let y = (stop_ran now new slip.list stop b.ran.keeps.kept.opening b.ran.did.prefix stands).1 in
+      let last = b.tries in omega (arith, x, y, tried, last)
 
 -- Tails
 
@@ -85,21 +98,23 @@ lists_on old new l k low =
     let same = ap (λ (s : Shape). s.lists) k.shape in omega (arith, low, a, b, same)
 
 -- the whole append, from what came before the turns and the help behind them
-pub appended_whole : (p mid new last : Pass) (row late tail : ℕ) (slip : Slip) (l m : Load) → late ≡ row → m ≡ l → Ran p mid [] → Appended mid new late tail slip m → Ran new last [] → Appended p last row 0 slip l
-appended_whole p mid new last row late tail slip l m same_row same_load ran b help =
+pub appended_whole : (p mid new last : Pass) (row late tail : ℕ) (slip : Slip) (l m : Load) → late ≡ row → m ≡ l → Ran p mid [] → tries (shown mid) ≡ tries (shown p) → Appended mid new late tail slip m → Ran new last [] → tries (shown last) ≡ tries (shown new) → Appended p last row 0 slip l
+appended_whole p mid new last row late tail slip l m same_row same_load ran before b help behind =
     let a : Appended mid new row tail slip l = subst (λ (z : ℕ × Load). Appended mid new z.0 tail slip z.1) (λ i. (same_row i, same_load i)) b in
-    record {
+    let stays = stop_ran new last slip.list (suc row) help.keeps.kept.opening help.did.prefix a.there in
+    let place : suc (place_at (state last) row) ≡ suc (place_at (state new) row) = stays.1 in
+    let turns = a.tries in record {
       ran = ran_end p new last (enters row slip l) (ran_then p mid new (enters row slip l ∷ []) ran a.ran) help;
-      there = (stop_ran new last slip.list (suc row) help.keeps.kept.opening help.did.prefix a.there).0;
+      there = stays.0;
       behind = omega arith;
+      tries = omega (arith, before, turns, behind, place);
     }
 
 -- Draws
 
 -- what a draw leaves
-pub drew_row : (old new : Pass) (row : ℕ) → Kept old new → DidDraw (view old) (view new) row → IsDrawnBy (view new) row
+pub drew_row : (old new : Pass) (row : ℕ) → Kept old new → DidDraw (view old) (view new) row → Drafts new row (blank_drawing row)
 drew_row old new row k x = record {
-  d = blank_drawing row;
   drawing = ap (λ (z : View). drawing_at z row) x.view ∙ find-here (is_drawing row) (blank_drawing row) (view old).drawn (eq-eqb row row refl);
   low = subst (λ (s : Shape). row < s.rows) (sym k.shape) x.low;
 }
@@ -115,6 +130,13 @@ ran_same old new legal k e = record {
   added = [];
   shown_is = ap (λ (z : View). z.shown) e ∙ sym (append-nil (shown old));
 }
+
+-- a draw and a search for the end of the list each try at most once a row
+pub put_tries : {C : Type 0} (e : Entries C) (old mid new : Pass) (row : ℕ) (slip : Slip) (l : Load) → tries (shown mid) ≤ tries (shown old) + e.shape.rows → Appended mid new row 0 slip l → IsPassOf e new → tries (shown new) ≤ tries (shown old) + 2 * e.shape.rows
+put_tries e old mid new row slip l drew a is =
+    let low = place_low (view new).shape (state new) row a.there.0 new.within a.there.1 in
+    let turns = a.tries in
+    let rows = ap (λ (s : Shape). s.rows) is.shape in omega (arith, drew, turns, low, rows)
 
 module _ {C : Type 0} (load : C → Load) (e : Entries C) (old : Pass) (slip : Slip) (cargo : C) where
   pub put_spent : (new : Pass) (back : C) → Legal (opening old) (seen old) → Kept old new → (share old ≡ 0) × (back ≡ cargo) × (view new ≡ view old) → Called (build_of e) (sight old) (sight new) (CallPut slip (load cargo)) (IsSpent (load back))

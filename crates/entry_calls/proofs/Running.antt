@@ -30,10 +30,10 @@ use Rattle.entry_table.specs.declared.view.Drawing.{Drawing}
 use Rattle.entry_table.specs.declared.view.Shape.{Shape}
 use Rattle.entry_table.specs.declared.view.View.{View}
 use Rattle.entry_table.specs.Passes.{Kept, Did, view, opening, seen, state, shown, callers, consumers, allowance, share, drawn}
-use Rattle.entry_table.specs.Plays.{Steps, IsKnown, list_at_node, place_at_node, stored_view, IsDrawnBy}
-use Rattle.entry_table.specs.Views.{is_drawing, drawing_at, with_word}
+use Rattle.entry_table.specs.Plays.{Steps, IsKnown, list_at_node, place_at_node, stored_view}
+use Rattle.entry_table.specs.Views.{is_drawing, drawing_at, blank_drawing, with_word}
 use Rattle.entry_table.proofs.Joining.{steps_trans}
-use Rattle.entry_calls.specs.Appends.{Ran, Described}
+use Rattle.entry_calls.specs.Appends.{Ran, Described, Drafts}
 use Rattle.entry_calls.proofs.Replying.{keeps_trans}
 
 -- In a row
@@ -182,31 +182,21 @@ described_on old new row slip k same d = record {
   list = d.list;
 }
 
--- a row that was drawn still is after a store
-pub drawn_on : (old new : Pass) (row later value : ℕ) (word : DraftWord) → Kept old new → view new ≡ stored_view (view old) row word value (seen new) → later ≡ row → IsDrawnBy (view old) row → IsDrawnBy (view new) later
-drawn_on old new row later value word k e same i = subst (IsDrawnBy (view new)) (sym same) (record {
-  d = with_word word value i.d;
-  drawing = drawing_stored old new row value word i.d e i.drawing;
-  low = subst (λ (s : Shape). row < s.rows) (sym k.shape) i.low;
-})
+-- the draft words after a store
+pub drafts_stored : (old new : Pass) (row value : ℕ) (word : DraftWord) (d : Drawing) → Kept old new → view new ≡ stored_view (view old) row word value (seen new) → Drafts old row d → Drafts new row (with_word word value d)
+drafts_stored old new row value word d k e x = record {
+  drawing = drawing_stored old new row value word d e x.drawing;
+  low = subst (λ (s : Shape). row < s.rows) (sym k.shape) x.low;
+}
 
--- after stores of all words of a slip
-pub describes : (p0 p1 p2 p3 p4 : Pass) (row r1 r2 r3 : ℕ) (slip : Slip) (m i s l : ℕ) → IsDrawnBy (view p0) row → r1 ≡ row → r2 ≡ row → r3 ≡ row
-    → view p1 ≡ stored_view (view p0) row drafts.Mask m (seen p1) → view p2 ≡ stored_view (view p1) r1 drafts.Ident i (seen p2) → view p3 ≡ stored_view (view p2) r2 drafts.Size s (seen p3) → view p4 ≡ stored_view (view p3) r3 drafts.List l (seen p4)
-    → m ≡ slip.mask → i ≡ slip.id → s ≡ slip.size → l ≡ slip.list → (view p4).shape ≡ (view p0).shape → Described p4 row slip
-describes p0 p1 p2 p3 p4 row r1 r2 r3 slip m i s l drawn_row e1 e2 e3 v1 v2 v3 v4 em ei es el shape =
-    let w2 = subst (λ (k : ℕ). view p2 ≡ stored_view (view p1) k drafts.Ident i (seen p2)) e1 v2 in
-    let w3 = subst (λ (k : ℕ). view p3 ≡ stored_view (view p2) k drafts.Size s (seen p3)) e2 v3 in
-    let w4 = subst (λ (k : ℕ). view p4 ≡ stored_view (view p3) k drafts.List l (seen p4)) e3 v4 in
-    let d1 : Drawing = with_word drafts.Mask m drawn_row.d in
-    let d2 : Drawing = with_word drafts.Ident i d1 in
-    let d3 : Drawing = with_word drafts.Size s d2 in
-    record {
-      d = with_word drafts.List l d3;
-      drawing = drawing_stored p3 p4 row l drafts.List d3 w4 (drawing_stored p2 p3 row s drafts.Size d2 w3 (drawing_stored p1 p2 row i drafts.Ident d1 w2 (drawing_stored p0 p1 row m drafts.Mask drawn_row.d v1 drawn_row.drawing)));
-      low = subst (λ (z : Shape). row < z.rows) (sym shape) drawn_row.low;
-      mask = em;
-      ident = ei;
-      size = es;
-      list = el;
-    }
+-- once all words of a slip are written
+pub describes : (p : Pass) (row : ℕ) (slip : Slip) (l : ℕ) → l ≡ slip.list → Drafts p row (with_word drafts.List l (with_word drafts.Size slip.size (with_word drafts.Ident slip.id (with_word drafts.Mask slip.mask (blank_drawing row))))) → Described p row slip
+describes p row slip l list x = record {
+  d = _;
+  drawing = x.drawing;
+  low = x.low;
+  mask = refl;
+  ident = refl;
+  size = refl;
+  list = list;
+}

@@ -24,10 +24,12 @@ use Rattle.entry_table.specs.declared.pass.Pass.{Pass}
 use Rattle.entry_table.specs.declared.view.Drawing.{Drawing}
 use Rattle.entry_table.specs.declared.view.Shape.{Shape}
 use Rattle.entry_table.specs.declared.view.View.{View}
-use Rattle.entry_table.specs.Passes.{Kept, Did, view, opening, seen, state, callers, consumers, allowance, share, drawn}
-use Rattle.entry_table.specs.Plays.{Steps, Shows, CanLink, LinkAnswer, DidEnter, Blocked, Linkable, stored_view, by_me, enters as enters_row}
+use Rattle.entry_table.specs.Passes.{Kept, Did, view, opening, seen, shown, state, callers, consumers, allowance, share, drawn}
+use Rattle.entry_table.specs.Plays.{Steps, Shows, CanLink, LinkAnswer, DidEnter, Blocked, Linkable, stored_view, by_me, enters as enters_row, quiet}
 use Rattle.entry_table.specs.Views.{caller_of, drawing_at, with_word, slip_of, entry}
+use Rattle.entry_table.specs.Tries.{tries}
 use Rattle.entry_table.proofs.Following.{link_tells, place_low}
+use Rattle.entry_table.proofs.Trying.{linked_tries}
 use Rattle.entry_calls.specs.Appends.{Ran, Described, Appended, Passed, Turned, enters}
 use Rattle.entry_calls.proofs.Running.{ran_then, ran_store, drawing_stored, stop_ran, stop_on, known_stop, list_stop, place_stop, reach_some, row_stop, reach_low, enters_later}
 
@@ -37,7 +39,7 @@ place_shown q row n x found shows = sym shows.2 ∙ (shows.1.drafted row x found
 
 -- p is the pass at the beginning of a turn, q the one when the place is known, and r the one when it is stored.
 module _ {C : Type 0} (load : C → Load) (p q r : Pass) (draft given : Draft C) (slip : Slip) (stop place : ℕ) (described : Described p draft.row slip) (may : Enters (state p) p.caller slip (load draft.cargo)) (unkeyed : slip.key ≡ None) (stands : IsStop (state p) slip.list stop)
-    (before : Ran p q []) (drafts_same : drawn q ≡ drawn p) (place_is : place ≡ reach (state q) stop) (kept : Kept q r) (did : Did q r []) (is : view r ≡ stored_view (view q) draft.row drafts.Place place (seen r)) (same_row : given.row ≡ draft.row) (same_cargo : given.cargo ≡ draft.cargo) where
+    (before : Ran p q []) (tries_same : tries (shown q) ≡ tries (shown p)) (drafts_same : drawn q ≡ drawn p) (place_is : place ≡ reach (state q) stop) (kept : Kept q r) (did : Did q r []) (is : view r ≡ stored_view (view q) draft.row drafts.Place place (seen r)) (same_row : given.row ≡ draft.row) (same_cargo : given.cargo ≡ draft.cargo) where
   abbrev d : Drawing
   d = with_word drafts.Place place described.d
 
@@ -46,6 +48,9 @@ module _ {C : Type 0} (load : C → Load) (p q r : Pass) (draft given : Draft C)
 
   drawing_here : drawing_at (view r) draft.row ≡ Some d
   drawing_here = drawing_stored q r draft.row place drafts.Place described.d is (ap (find (Rattle.entry_table.specs.Views.is_drawing draft.row)) drafts_same ∙ described.drawing)
+
+  tries_here : tries (shown r) ≡ tries (shown p)
+  tries_here = ap (λ (z : View). tries z.shown) is ∙ tries_same
 
   enters_here : Enters (state r) r.caller slip (load draft.cargo)
   enters_here = enters_later p r slip (load draft.cargo) ran_here may
@@ -108,10 +113,12 @@ module _ {C : Type 0} (load : C → Load) (p q r : Pass) (draft given : Draft C)
       let place_new : place_at (state new) draft.row ≡ length (rows_of q0 slip.list) = ap (λ (z : Queue). place_at z draft.row) now ∙ own_enqueued_last q0 h draft.row slip l.content l.origin l.count can in
       let was = stop_on O (seen r) e.before slip.list stop e.prefix stop_here in
       let late : reach (state new) stop ≡ reach q0 stop = ap (λ (o : Queue). reach (after o (seen new)) stop) k.opening ∙ (stop_on O e.before (seen new) slip.list stop (deed h act ∷ [], sym last) was.0).1 in
-      let low = reach_low q0 slip.list stop was.0 in record {
+      let low = reach_low q0 slip.list stop was.0 in
+      let tried = linked_tries (view r) (view new) given.row node 0 (suc given.row) [] e.shown in record {
         ran = ran_then p r new (act ∷ []) ran_here ran;
         there = (_, found, refl);
         behind = omega (arith, late, low, place_new);
+        tries = omega (arith, late, low, place_new, tried, tries_here);
       }
 
   -- another row was there
@@ -136,6 +143,7 @@ module _ {C : Type 0} (load : C → Load) (p q r : Pass) (draft given : Draft C)
       let number : next ≡ suc (next - 1) = omega (arith, some) in
       let t = tells.leads (next - 1) (shows.2 ∙ number) in
       let far = reach_some Q next some in
+      let tried = linked_tries (view r) (view new) given.row node next next (quiet b.last (seen new) ∷ []) b.shown in
       let behind = t.1 in
       let place_in = place_low (view new).shape Q (next - 1) t.0.0 new.within t.0.1 in record {
         ran = all;
@@ -153,6 +161,7 @@ module _ {C : Type 0} (load : C → Load) (p q r : Pass) (draft given : Draft C)
         stands = row_stop Q slip.list next some t.0;
         more = omega (arith, far, behind);
         low = omega (arith, far, place_in);
+        tries = omega (arith, far, behind, tried, tries_here);
       }
 
   pub turned : (new : Pass) (node : Node) (answer : Linking C) → node ≡ node_at slip.list stop → Kept r new → allowance new ≡ allowance r → share new ≡ share r → LinkAnswer load node given (view r) (view new) answer → Turned load p new draft stop slip answer

@@ -1,5 +1,5 @@
 -- what the parts of a put leave of a pass
-use Rattle.std.specs.Prelude.{◌≡◌, ℕ, ◌<◌, ◌≤◌, Some, List, [], ◌∷◌, ◌++◌}
+use Rattle.std.specs.Prelude.{◌≡◌, ℕ, suc, ◌+◌, ◌<◌, ◌≤◌, Some, List, [], ◌∷◌, ◌++◌}
 use Rattle.queue_model.specs.declared.deeds.Act.{Act}
 use Rattle.queue_model.specs.declared.deeds.Act.TheVariants as acts
 use Rattle.queue_model.specs.declared.rows.Slip.{Slip}
@@ -13,6 +13,7 @@ use Rattle.entry_table.specs.declared.draft.Linking.TheVariants.{Linked, Behind}
 use Rattle.entry_table.specs.declared.pass.Pass.{Pass}
 use Rattle.entry_table.specs.declared.view.Drawing.{Drawing}
 use Rattle.entry_table.specs.Passes.{Did, view, state, shown}
+use Rattle.entry_table.specs.Tries.{tries}
 use Rattle.entry_table.specs.Views.{drawing_at}
 use Rattle.entry_calls.specs.Changed.{Keeps}
 
@@ -22,6 +23,11 @@ pub record Ran (old new : Pass) (done : List Act) : Type 0 where
   pub did : Did old new done
   pub added : List Tried
   pub shown_is : shown new ≡ shown old ++ added
+
+-- the pass drew the row, and these are its draft words
+pub record Drafts (p : Pass) (row : ℕ) (d : Drawing) : Type 0 where
+  pub drawing : drawing_at (view p) row ≡ Some d
+  pub low : row < (view p).shape.rows
 
 -- the pass drew the row, and its draft words are those of the slip, but for the place
 pub record Described (p : Pass) (row : ℕ) (slip : Slip) : Type 0 where
@@ -42,6 +48,8 @@ pub record Appended (old new : Pass) (row stop : ℕ) (slip : Slip) (l : Load) :
   pub ran : Ran old new (enters row slip l ∷ [])
   pub there : IsOfList (state new) slip.list row
   pub behind : reach (state new) stop ≤ place_at (state new) row
+  -- each try but the last passed a row by
+  pub tries : tries (shown new) + reach (state new) stop ≤ tries (shown old) + suc (place_at (state new) row)
 
 -- another row stands behind the stop: the next stop. The draft comes back.
 pub record Passed {C : Type 0} (old new : Pass) (draft back : Draft C) (stop next : ℕ) (slip : Slip) : Type 0 where
@@ -52,6 +60,7 @@ pub record Passed {C : Type 0} (old new : Pass) (draft back : Draft C) (stop nex
   pub stands : IsStop (state new) slip.list next
   pub more : reach (state new) stop < reach (state new) next
   pub low : reach (state new) next ≤ (view new).shape.rows
+  pub tries : tries (shown new) + reach (state new) stop ≤ tries (shown old) + reach (state new) next
 
 abbrev pub Turned : {C : Type 0} → (C → Load) → Pass → Pass → Draft C → ℕ → Slip → Linking C → Type 0
 Turned load old new draft stop slip Linked = Appended old new draft.row stop slip (load draft.cargo)

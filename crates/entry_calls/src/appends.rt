@@ -1,5 +1,5 @@
 //! The call that puts an entry.
-ghost use Rattle.std.specs.Prelude.{◌≡◌, ◌≤◌, ◌<◌, ◌-◌, ℕ, [], ◌∷◌, Some, None};
+ghost use Rattle.std.specs.Prelude.{◌≡◌, ◌≤◌, ◌<◌, ◌-◌, ◌+◌, ◌*◌, ℕ, [], ◌∷◌, Some, None};
 ghost use Rattle.acts_core.specs.Asked.{Enters, MayPut};
 ghost use Rattle.acts_core.specs.Calls.{CallPut};
 ghost use Rattle.acts_core.specs.Meaning.{Called};
@@ -7,16 +7,18 @@ ghost use Rattle.acts_core.specs.Replies.{of_put};
 ghost use Rattle.acts_core.specs.Sight.{Listed};
 ghost use Rattle.acts_core.specs.Walks.{IsStop, reach};
 ghost use Rattle.entry_table.specs.Passes.{drawn, shown, state, view};
-ghost use Rattle.entry_table.specs.Plays.{IsDrawnBy};
 ghost use Rattle.entry_table.specs.Sights.{build_of, Serves, sight};
-ghost use Rattle.entry_calls.specs.Appends.{Appended, Described, Ran, Turned};
+ghost use Rattle.entry_table.specs.Tries.{tries};
+ghost use Rattle.entry_table.specs.Views.{blank_drawing, with_word, word_in};
+ghost use Rattle.entry_table.specs.declared.view.Drawing.{Drawing};
+ghost use Rattle.entry_calls.specs.Appends.{Appended, Described, Drafts, Ran, Turned};
 
 use acts_core::{Freight, Placed};
 use entry_table::{Draft, Drawn, Entries, Linking, Pass, node_of};
 use queue_model::{DraftWord, Node, Slip, WordName};
 
 /// Puts an entry, in place of a reserved one of its size, at the end of its list. It is `Spent` exactly where
-/// the pass has no row left to draw.
+/// the pass has no row left to draw. In all it tries at most twice a row of the table to draw or to link one.
 pub fn enqueue<C: Freight>(
     entries: &Entries<C>,
     pass: &mut Pass,
@@ -28,6 +30,7 @@ pub fn enqueue<C: Freight>(
     ensures serves { Serves entries.now pass.new }
     ensures called { Called (build_of entries.now) (sight pass.old) (sight pass.new)
         (CallPut slip.now (C.goods cargo)) (of_put C.goods result) }
+    ensures tries { tries (shown pass.new) ≤ tries (shown pass.old) + 2 * entries.now.shape.rows }
 {
     match entries.draw_row(pass, cargo) {
         Drawn::Spent(back) => Placed::Spent(back),
@@ -46,7 +49,7 @@ pub fn enqueue<C: Freight>(
 // at its tail, which is helped to the row.
 fn append<C: Freight>(entries: &Entries<C>, pass: &mut Pass, draft: Draft<C>, slip: &Slip)
     requires serves { Serves entries.now pass.old }
-    requires drawn { IsDrawnBy (view pass.old) draft.row }
+    requires blank { Drafts pass.old draft.row (blank_drawing draft.row) }
     requires enters { Enters (state pass.old) pass.old.caller slip.now (C.goods draft.cargo) }
     requires key { slip.now.key ≡ None }
     ensures serves { Serves entries.now pass.new }
@@ -60,19 +63,42 @@ fn append<C: Freight>(entries: &Entries<C>, pass: &mut Pass, draft: Draft<C>, sl
     entries.help_tail(pass, slip.list, node_of(slip.list, tail), Node::Row(row));
 }
 
-// Writes the slip down.
+// Writes the slip down, in draft words that are still 0.
 fn describe<C: Freight>(entries: &Entries<C>, pass: &mut Pass, draft: &mut Draft<C>, slip: &Slip)
     requires serves { Serves entries.now pass.old }
-    requires drawn { IsDrawnBy (view pass.old) draft.old.row }
+    requires blank { Drafts pass.old draft.old.row (blank_drawing draft.old.row) }
     ensures serves { Serves entries.now pass.new }
     ensures same { (draft.new.row ≡ draft.old.row) × (draft.new.cargo ≡ draft.old.cargo) }
     ensures ran { Ran pass.old pass.new [] }
+    ensures tries { tries (shown pass.new) ≡ tries (shown pass.old) }
     ensures described { Described pass.new draft.old.row slip.now }
 {
-    entries.store_draft(pass, draft, DraftWord::Mask, slip.mask);
-    entries.store_draft(pass, draft, DraftWord::Ident, slip.id);
-    entries.store_draft(pass, draft, DraftWord::Size, slip.size);
-    entries.store_draft(pass, draft, DraftWord::List, u64::from(slip.list));
+    write_down(entries, pass, draft, DraftWord::Mask, slip.mask);
+    write_down(entries, pass, draft, DraftWord::Ident, slip.id);
+    write_down(entries, pass, draft, DraftWord::Size, slip.size);
+    write_down(entries, pass, draft, DraftWord::List, u64::from(slip.list));
+}
+
+// Makes a draft word that is still 0 this value. A 0 takes no step.
+fn write_down<C: Freight>(
+    entries: &Entries<C>,
+    pass: &mut Pass,
+    draft: &mut Draft<C>,
+    word: DraftWord,
+    value: u64,
+)
+    requires serves { Serves entries.now pass.old }
+    requires unset { (d : Drawing) × Drafts pass.old draft.old.row d × (word_in d word ≡ 0) }
+    ensures serves { Serves entries.now pass.new }
+    ensures same { (draft.new.row ≡ draft.old.row) × (draft.new.cargo ≡ draft.old.cargo) }
+    ensures ran { Ran pass.old pass.new [] }
+    ensures tries { tries (shown pass.new) ≡ tries (shown pass.old) }
+    ensures written { (d : Drawing) → Drafts pass.old draft.old.row d → word_in d word ≡ 0
+        → Drafts pass.new draft.old.row (with_word word value d) }
+{
+    if value != 0 {
+        entries.store_draft(pass, draft, word, value);
+    }
 }
 
 // Links the row behind the last row of its list, which is at the stop or behind it.
@@ -132,6 +158,7 @@ fn place_behind<C: Freight>(entries: &Entries<C>, pass: &mut Pass, slip: &Slip, 
     requires stop { IsStop (state pass.old) slip.now.list stop }
     ensures serves { Serves entries.now pass.new }
     ensures ran { Ran pass.old pass.new [] }
+    ensures tries { tries (shown pass.new) ≡ tries (shown pass.old) }
     ensures drawn { drawn pass.new ≡ drawn pass.old }
     ensures place { result ≡ reach (state pass.new) stop }
 {

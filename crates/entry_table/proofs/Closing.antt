@@ -31,6 +31,10 @@ read l i j n e found = ap (slice_index l) (sym e) ∙ read_at l i n found
     read_at (x ∷ l) zero n e = let t : x ≡ n = cc in t
     read_at (x ∷ l) (suc i) n e = read_at l i n e
 
+-- the same, of words that are equal
+pub read_in : (ws vs : List ℕ) (i j n : ℕ) → vs ≡ ws → i ≡ j → get_elem? vs i ≡ some n → slice_index ws j ≡ n
+read_in ws vs i j n same e found = read ws i j n e (ap (λ (l : List ℕ). get_elem? l i) (sym same) ∙ found)
+
 pub at_or : {A : Type 0} (l : List A) (i : ℕ) (a d : A) → get_elem? l i ≡ some a → get_or l i d ≡ a
 at_or {A = A} [] i a d e = absurd (cc)
 at_or {A = A} (x ∷ l) zero a d e = let t : x ≡ a = cc in t

@@ -12,6 +12,7 @@ pub mod Entering
 pub mod Places
 pub mod Joining
 pub mod Seeking
+pub mod Trying
 pub mod Laying
 pub mod Ends
 pub mod Splitting

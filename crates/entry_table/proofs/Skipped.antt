@@ -42,7 +42,7 @@ use Rattle.entry_table.specs.declared.view.Watched.{Watched}
 use Rattle.entry_table.specs.Views.{AllEnd}
 use Rattle.entry_table.specs.Rule.{table_at, Each, HasNode, IsOnward, MovesOn, Watches, RuledAt, Ruled, allowance}
 use Rattle.entry_table.specs.Plays.{IsKnown, Went, Within}
-use Rattle.entry_table.specs.Skips.{watch_of, watched_view, watching, Watching, Unlinkable, unlinking, Unlinks}
+use Rattle.entry_table.specs.Skips.{watch_of, watched_view, watching, Watching, Unlinkable, unlinking, Moves, Unlinks}
 use Rattle.entry_table.proofs.Frames.{sum_views}
 use Rattle.entry_table.proofs.Keeping.{opened, now, me, knows_me, after_seen, legal_more, went}
 use Rattle.entry_table.proofs.Onwards.{onward_self, links_same, links_written, watches_with}
@@ -247,14 +247,17 @@ module _ {C : Type 0} (load : C → Load) (shape : Shape) where
 pub did_watch : {S : Type 0} (node : Node) (step : Step) (m : Me S View) (n : ℕ) (m' : Me S View) → watching node step m n m' → Watching m.0 m'.0 node step n
 did_watch node step m n m' told = record { shows = told.2; onward = told.3; watches = record { watched = ap (λ (z : View). z.watched) told.4; shown = ap (λ (z : View). z.shown) told.4 } }
 
-pub did_unlink : {S : Type 0} (node : Node) (from to : ℕ) (m : Me S View) (n : ℕ) (m' : Me S View) → unlinking node from to m n m' → Unlinks m.0 m'.0 node from to (n == suc from)
-did_unlink node from to m n m' told = ⊎_elim
-    (λ (hit : n ≡ suc from).
-    let t = told.0 hit in
-    subst (λ (b : Bool). Unlinks m.0 m'.0 node from to b) (sym (eq-eqb n (suc from) hit))
-    (record { watched = ap (λ (z : View). z.watched) t.2; shown = ap (λ (z : View). z.shown) t.2 }))
-    (λ (miss : n ≢ suc from).
-    subst (λ (b : Bool). Unlinks m.0 m'.0 node from to b) (sym (ne_eqb n (suc from) miss)) (n, miss, did_watch node (steps.Unlink node from to) m n m' (told.1 miss)))
+pub did_move : {S : Type 0} (node : Node) (from to : ℕ) (m : Me S View) (n : ℕ) (m' : Me S View) → unlinking node from to m n m' → Moves m.0 m'.0 node from to n
+did_move node from to m n m' told = (
+  (λ hit. let t = told.0 hit in record { watched = ap (λ (z : View). z.watched) t.2; shown = ap (λ (z : View). z.shown) t.2 }),
+  (λ miss. did_watch node (steps.Unlink node from to) m n m' (told.1 miss)),
+)
+
+-- whether it moved
+pub did_unlink : (node : Node) (from to : ℕ) (v : View) (n : ℕ) (w : View) → Moves v w node from to n → Unlinks v w node from to (n == suc from)
+did_unlink node from to v n w told = ⊎_elim
+    (λ (hit : n ≡ suc from). subst (λ (b : Bool). Unlinks v w node from to b) (sym (eq-eqb n (suc from) hit)) (told.0 hit))
+    (λ (miss : n ≢ suc from). subst (λ (b : Bool). Unlinks v w node from to b) (sym (ne_eqb n (suc from) miss)) (n, miss, told.1 miss))
     (cases_eq n (suc from))
 
 -- a node that is known is one of the table

@@ -74,6 +74,12 @@ unlinking node from to m n m' =
     (n ≡ suc from → (m'.1 ≡ m.1) × Went m.0 m'.0 [] × (m'.0 ≡ watched_view m.0 node (steps.Unlink node from to) (suc from) (suc to) m'.0.seen))
     × (n ≢ suc from → watching node (steps.Unlink node from to) m n m')
 
+-- The link was the word n, and moved on where it named the deleted row.
+abbrev pub Moves : View → View → Node → ℕ → ℕ → ℕ → Type 0
+Moves v w node from to n =
+    (n ≡ suc from → Rewatches v w node (steps.Unlink node from to) (suc from) (suc to))
+    × (n ≢ suc from → Watching v w node (steps.Unlink node from to) n)
+
 -- True: the link named the deleted row, and moved on. False: it named another row.
 abbrev pub Unlinks : View → View → Node → ℕ → ℕ → Bool → Type 0
 Unlinks v w node from to true = Rewatches v w node (steps.Unlink node from to) (suc from) (suc to)

@@ -4,7 +4,8 @@ ghost use Rattle.queue_model.specs.Table.{most_entries};
 ghost use Rattle.link_core.specs.Layout.{draft_of};
 ghost use Rattle.entry_table.specs.Views.{rest_of};
 ghost use Rattle.entry_table.specs.Plays.{draws, stored, stored_view, DidDraw, DrawAnswer, IsDrawnBy, Went};
-ghost use Rattle.entry_table.specs.Passes.{IsPassOf, Kept, Did, view, seen, allowance, share};
+ghost use Rattle.entry_table.specs.Passes.{IsPassOf, Kept, Did, view, shown, seen, allowance, share};
+ghost use Rattle.entry_table.specs.Tries.{tries};
 
 use crate::draft::{Draft, Drawn};
 use crate::entries::Entries;
@@ -25,6 +26,7 @@ impl<C: Freight> Entries<C> {
         requires table { IsPassOf self.now pass.old }
         ensures kept { Kept pass.old pass.new }
         ensures answer { DrawAnswer (view pass.old) (view pass.new) cargo result }
+        ensures tries { tries (shown pass.new) ≤ tries (shown pass.old) + self.now.shape.rows }
     {
         if pass.share == 0 {
             return Drawn::Spent(cargo);

@@ -14,12 +14,8 @@ pub struct Entries<C: Freight> {
     pub(crate) table: Table<Option<C>, View, Shape, Ruling<C>, Global>,
     pub(crate) shape: Shape,
     /// Room for what is left when the table is closed.
-    pub(crate) parcels: Vec<Option<C>>,
     pub(crate) rest: Vec<RestEntry<C>>,
-    pub ghost room: { (vec_len parcels ≡ 0)
-        × (shape.rows ≤ vec_capacity parcels)
-        × (vec_len rest ≡ 0)
-        × (shape.rows ≤ vec_capacity rest) },
+    pub ghost room: { (vec_len rest ≡ 0) × (shape.rows ≤ vec_capacity rest) },
     pub ghost wide: { table.shared.table_id.words ≡ words_of shape.rows shape.lists },
     pub ghost slots: { table.shared.table_id.slots ≡ shape.rows },
     pub ghost keyed: { table.shared.key ≡ shape },

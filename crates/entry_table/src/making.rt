@@ -74,16 +74,10 @@ impl<C: Freight> Entries<C> {
         ensures view { IfOk result (λ r. view r.1 ≡ boss shape) }
         ensures caller { IfOk result (λ r. r.1.caller ≡ 0) }
     {
-        let parcels = Vec::with_capacity(alloc, shape.rows as usize)?;
         let rest = Vec::with_capacity(alloc, shape.rows as usize)?;
         let words = fresh_words(alloc, 1, shape.rows, shape.lists)?;
         let (table, seat) = Table::vacant(alloc, words.as_slice(), shape.rows as usize, &shape)?;
-        let entries = Entries {
-            table,
-            shape,
-            parcels,
-            rest,
-        };
+        let entries = Entries { table, shape, rest };
         let pass = Pass {
             badge: seat.into_badge(),
             caller: 0,

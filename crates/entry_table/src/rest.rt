@@ -25,15 +25,19 @@ use atomic_table::Closed;
 use link_core::places::{IDENT_AT, MASK_AT, SIZE_AT, STATE_AT, list_place, row_place, state_of};
 use queue_model::{RowState, Slip};
 use std::alloc::Global;
-use std::mem;
 
-// The cargo of a row that waits.
-fn unload<C>(parcels: &mut Vec<Option<C>>, row: usize) -> C
-    requires there { (c : C) × (get_elem? parcels.old.items row ≡ some (Some c)) }
-    ensures value { get_elem? parcels.old.items row ≡ some (Some result) }
-    ensures others { parcels.new.items ≡ slice_set parcels.old.items row None }
+// The cargo of a row that waits, out of its slot, which is empty then.
+fn unload<C>(closed: &mut Closed<Option<C>, Global>, row: usize) -> C
+    requires full { IsFull closed.old.slots }
+    requires there { (c : C) × (get_elem? (slots_items closed.old.slots) row ≡ some (Some c)) }
+    ensures full { IsFull closed.new.slots }
+    ensures words { closed.new.words ≡ closed.old.words }
+    ensures value { get_elem? (slots_items closed.old.slots) row ≡ some (Some result) }
+    ensures others { slots_items closed.new.slots ≡ slice_set (slots_items closed.old.slots) row None }
 {
-    match mem::replace(&mut parcels[row], None) {
+    let parcel = closed.take(row);
+    closed.slots.put(row, None);
+    match parcel {
         Some(cargo) => cargo,
         None => unreachable!(),
     }
@@ -68,43 +72,39 @@ fn resting<C: Freight>(
     }
 }
 
-// All slots' values, by number.
-fn emptied<C>(closed: &mut Closed<Option<C>, Global>, parcels: &mut Vec<Option<C>>)
+// Drops what the slots still hold.
+fn clear<C: Freight>(closed: &mut Closed<Option<C>, Global>)
     requires full { IsFull closed.old.slots }
-    requires room { slots_len closed.old.slots ≤ vec_capacity parcels.old }
-    requires none { vec_len parcels.old ≡ 0 }
-    ensures values { (k : ℕ) (y : Option C) → get_elem? (slots_items closed.old.slots) k ≡ some y
-        → get_elem? parcels.new.items k ≡ some y }
-    ensures long { length parcels.new.items ≡ slots_len closed.old.slots }
-    ensures words { closed.new.words ≡ closed.old.words }
     ensures taken { (k : ℕ) → k < slots_len closed.new.slots
         → slice_index_or (slots_filled closed.new.slots) k false ≡ false }
 {
     let mut i = 0;
     'slots: while i < closed.slot_count() {
-        parcels.push_reserved(closed.take(i));
+        drop(closed.take(i));
         i += 1;
     }
 }
 
-// Adds the rows of a list that aren't deleted.
+// Adds the rows of a list that aren't deleted, each with the cargo out of its slot.
 fn gather<C: Freight>(
-    closed: &Closed<Option<C>, Global>,
+    closed: &mut Closed<Option<C>, Global>,
     rows: u64,
     list: u32,
-    parcels: &mut Vec<Option<C>>,
     rest: &mut Vec<RestEntry<C>>,
 )
-    requires words { IsFull closed.now.words
-        × (head_of rows (list + 1) ≤ slots_len closed.now.words) }
+    requires words { IsFull closed.old.words
+        × (head_of rows (list + 1) ≤ slots_len closed.old.words) }
+    requires slots { IsFull closed.old.slots }
     requires small { rows ≤ most_entries }
-    requires at { (q : Queue) × Legible (slots_items closed.now.words) rows q
+    requires at { (q : Queue) × Legible (slots_items closed.old.words) rows q
         × (list < q.lists)
-        × Rested C.goods q (list + 1) rest.old.items parcels.old.items
+        × Rested C.goods q (list + 1) rest.old.items (slots_items closed.old.slots)
         × (length (rests q.lists q) ≤ vec_capacity rest.old) }
-    ensures rested { (q : Queue) → Legible (slots_items closed.now.words) rows q → list < q.lists
-        → Rested C.goods q (list + 1) rest.old.items parcels.old.items
-        → Rested C.goods q list rest.new.items parcels.new.items }
+    ensures words { closed.new.words ≡ closed.old.words }
+    ensures slots { IsFull closed.new.slots }
+    ensures rested { (q : Queue) → Legible (slots_items closed.old.words) rows q → list < q.lists
+        → Rested C.goods q (list + 1) rest.old.items (slots_items closed.old.slots)
+        → Rested C.goods q list rest.new.items (slots_items closed.new.slots) }
     ensures room { vec_capacity rest.new ≡ vec_capacity rest.old }
 {
     let mut left = rows;
@@ -115,7 +115,7 @@ fn gather<C: Freight>(
         let at = row_place(row);
         let word = closed.word(at + STATE_AT);
         if word != 3 {
-            let cargo = unload(parcels, row as usize);
+            let cargo = unload(closed, row as usize);
             rest.push_reserved(resting(closed, row, list, state_of(word), cargo));
         }
         link = closed.word(at);
@@ -124,26 +124,27 @@ fn gather<C: Freight>(
 
 // Adds the rows of all lists that aren't deleted, from the last list down.
 fn gather_all<C: Freight>(
-    closed: &Closed<Option<C>, Global>,
+    closed: &mut Closed<Option<C>, Global>,
     rows: u64,
     lists: u32,
-    parcels: &mut Vec<Option<C>>,
     rest: &mut Vec<RestEntry<C>>,
 )
-    requires words { IsFull closed.now.words × (slots_len closed.now.words ≡ words_of rows lists) }
+    requires words { IsFull closed.old.words × (slots_len closed.old.words ≡ words_of rows lists) }
+    requires slots { IsFull closed.old.slots }
     requires small { rows ≤ most_entries }
-    requires at { (q : Queue) × Legible (slots_items closed.now.words) rows q
+    requires at { (q : Queue) × Legible (slots_items closed.old.words) rows q
         × (lists ≡ q.lists)
-        × Rested C.goods q lists rest.old.items parcels.old.items
+        × Rested C.goods q lists rest.old.items (slots_items closed.old.slots)
         × (length (rests q.lists q) ≤ vec_capacity rest.old) }
-    ensures rested { (q : Queue) → Legible (slots_items closed.now.words) rows q → lists ≡ q.lists
-        → Rested C.goods q lists rest.old.items parcels.old.items
-        → Rested C.goods q 0 rest.new.items parcels.new.items }
+    ensures slots { IsFull closed.new.slots }
+    ensures rested { (q : Queue) → Legible (slots_items closed.old.words) rows q → lists ≡ q.lists
+        → Rested C.goods q lists rest.old.items (slots_items closed.old.slots)
+        → Rested C.goods q 0 rest.new.items (slots_items closed.new.slots) }
 {
     let mut list = lists;
     'lists: while list != 0 {
         list -= 1;
-        gather(closed, rows, list, parcels, rest);
+        gather(closed, rows, list, rest);
     }
 }
 
@@ -176,13 +177,12 @@ impl<C: Freight> Entries<C> {
         let Entries {
             table,
             shape,
-            mut parcels,
             mut rest,
         } = self;
         let Pass { badge, .. } = boss;
         let mut closed = table.close_with(badge.into_seat::<Option<C>>());
-        emptied(&mut closed, &mut parcels);
-        gather_all(&closed, shape.rows, shape.lists, &mut parcels, &mut rest);
+        gather_all(&mut closed, shape.rows, shape.lists, &mut rest);
+        clear(&mut closed);
         closed.free();
         rest
     }

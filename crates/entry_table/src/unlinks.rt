@@ -9,7 +9,7 @@ ghost use Rattle.entry_table.specs.Passes.{IsPassOf, Kept, KeepsRights, Did, sta
 ghost use Rattle.entry_table.specs.Plays.{IsKnown, Within};
 ghost use Rattle.entry_table.specs.Rule.{HasNode};
 ghost use Rattle.entry_table.specs.Sights.{sight};
-ghost use Rattle.entry_table.specs.Skips.{link_word, watching, Watching, Unlinkable, unlinking, Unlinks as DidUnlink};
+ghost use Rattle.entry_table.specs.Skips.{link_word, watching, Watching, Unlinkable, unlinking, Moves, Unlinks as DidUnlink};
 
 use crate::entries::Entries;
 use crate::follows::node_of;
@@ -130,10 +130,23 @@ impl<C: Freight> Entries<C> {
         ensures did { Did pass.old pass.new [] }
         ensures unlinks { DidUnlink (view pass.old) (view pass.new) at from to result }
     {
+        self.move_link(pass, at, from, to) == from + 1
+    }
+
+    /// The same, and answers the word that the link was: 0 for empty, and a number more than a row's for that
+    /// row.
+    pub fn move_link(&self, pass: &mut Pass, at: Node, from: u64, to: u64) -> u64
+        requires table { IsPassOf self.now pass.old }
+        requires unlinkable { Unlinkable (state pass.old) at from to }
+        ensures kept { Kept pass.old pass.new }
+        ensures rights { KeepsRights pass.old pass.new }
+        ensures did { Did pass.old pass.new [] }
+        ensures moves { Moves (view pass.old) (view pass.new) at from to result }
+    {
         let mut seat = mem::replace(&mut pass.badge, Badge::blank()).into_seat::<Option<C>>();
         let found = self.unlink_at::<Brand>(&mut seat, at, from, to, pass.caller);
         pass.badge = seat.into_badge();
-        found == from + 1
+        found
     }
 
     // The exchange alone.
@@ -154,7 +167,6 @@ impl<C: Freight> Entries<C> {
         requires unlinkable { Unlinkable (state_in seat.old.me.0) at from to }
         ensures table { (seat.new.table_id ≡ seat.old.table_id) × (seat.new.id ≡ seat.old.id) }
         ensures told { unlinking at from to seat.old.me result seat.new.me }
-        ensures unlinks { DidUnlink seat.old.me.0 seat.new.me.0 at from to (result == from + 1) }
     {
         let _caller = caller;
         self.table

@@ -153,6 +153,7 @@ pub fn draft_place(row: u64, word: DraftWord) -> usize
 }
 
 /// Where the word of a name stands, in a table of so many rows.
+#[inline(always)]
 pub fn word_place(rows: u64, name: WordName) -> usize
     requires { place_of_word rows name < 2 ^ 63 }
     ensures { result ≡ place_of_word rows name }

@@ -1,12 +1,14 @@
 -- what is told of a deleted row
 use Rattle.std.proofs.Common.{◌≡◌, inl, inr, ℕ, suc, ◌+◌, ◌^◌, ◌<◌, ◌≤◌, max, Option, Some, None, List, [], ◌∷◌, ◌++◌, refl, sym, ap, ◌∙◌, arith}
 use Rattle.std.specs.Prelude.{◌%◌}
+use Rattle.queue_model.specs.declared.queues.Queue.{Queue}
 use Rattle.queue_model.specs.declared.rows.Row.{Row}
 use Rattle.queue_model.specs.declared.steps.DraftWord.TheVariants as drafts
 use Rattle.queue_model.specs.declared.steps.Node.TheVariants as nodes
 use Rattle.queue_model.specs.declared.steps.Step.TheVariants as steps
 use Rattle.queue_model.specs.declared.steps.Tried.{Tried}
 use Rattle.queue_model.specs.declared.steps.WordName.TheVariants as wordnames
+use Rattle.queue_model.specs.History.{after}
 use Rattle.queue_model.specs.State.{row_at, list_at, place_at}
 use Rattle.queue_model.proofs.SoundSteps.{list_found, row_fits}
 use Rattle.queue_model.proofs.Prefixes.{prefix_trans}
@@ -158,7 +160,7 @@ module _ (old mid new : Pass) (l w : ℕ) (stop : IsStop (state old) l w) (looke
     added = before ++ t.added;
     tries = tries_trans old mid new before t.added looked.3 t.tries;
     names = record { there = t.names.there; behind = t.names.behind; gone = t.names.gone; link = link_last (node_at l w) before t.added (suc r) t.names.link };
-    live = t.live;
+    live = record { moment = t.live.moment; later = prefix_trans (seen old) (seen mid) t.live.moment looked.3.steps.grows t.live.later; early = t.live.early; row = t.live.row; found = ap (λ (o : Queue). row_at (after o t.live.moment) r) (sym looked.3.kept.opening) ∙ t.live.found; live = t.live.live };
     early = early_before t.added t.early;
     begun = begun_before t.added t.begun;
     countless = countless-append before t.added refl t.countless;

@@ -19,8 +19,8 @@ use Rattle.entry_table.specs.Plays.{Shows}
 use Rattle.entry_table.specs.Views.{entry}
 use Rattle.entry_table.proofs.Later.{pass_of}
 use Rattle.scavenge_core.specs.Shown.{link_after}
-use Rattle.scavenge_core.specs.Skips.{Tries, Early, Reaches, Ends, EndShown, StepsOver}
-use Rattle.scavenge_core.specs.Scavenges.{WasLive, Visits, last_stop, MarkShown, Scavenged, Scavenging}
+use Rattle.scavenge_core.specs.Skips.{Tries, Early, Reaches, Ends, EndShown, StepsOver, WasLive}
+use Rattle.scavenge_core.specs.Scavenges.{Visits, last_stop, MarkShown, Scavenged, Scavenging}
 use Rattle.scavenge_core.proofs.Lasting.{tries_trans, tried, state_is, row_on, place_on, reach_on}
 use Rattle.scavenge_core.proofs.Logs.{link_first, link_last, countless-append}
 use Rattle.scavenge_core.proofs.Stepping.{row_low}
@@ -38,6 +38,10 @@ last_stops old new added l w (r ∷ rows) stop v = last_stops old new added l (s
 
 live_on : (old now new : Pass) (us : List Tried) (r : ℕ) → Tries now new us → WasLive old now r → WasLive old new r
 live_on old now new us r t x = record { moment = x.moment; later = x.later; early = prefix_trans x.moment (seen now) (seen new) x.early t.steps.grows; row = x.row; found = x.found; live = x.live }
+
+-- or a moment before began
+live_from : (old now new : Pass) (us : List Tried) (r : ℕ) → Tries old now us → WasLive now new r → WasLive old new r
+live_from old now new us r t x = record { moment = x.moment; later = prefix_trans (seen old) (seen now) x.moment t.steps.grows x.later; early = x.early; row = x.row; found = ap (λ (o : Queue). row_at (after o x.moment) r) (sym t.kept.opening) ∙ x.found; live = x.live }
 
 -- steps on no link behind an earlier stop leave what is visited
 pub visits_on : (old now new : Pass) (added us : List Tried) (l w k : ℕ) (rows : List ℕ) → Tries now new us → Early now l k us → IsStop (state now) l w → reach (state now) (last_stop w rows) ≤ reach (state now) k → Visits old now added l w rows → Visits old new (added ++ us) l w rows
@@ -84,16 +88,7 @@ begins old now l n k rights d e = record {
 pub visited : (old now new : Pass) (l mark w r : ℕ) → IsStop (state now) l w → Scavenging old now l mark w → Reaches now new l w r → Scavenging old new l mark (suc r)
 visited old now new l mark w r stop s t =
     let on = visits_on old now new s.added t.added l 0 w s.rows t.tries t.early tt (subst (λ (i : ℕ). reach (state now) i ≤ reach (state now) w) (sym s.last) (let z : reach (state now) w ≤ reach (state now) w = omega arith in z)) s.visits in
-    let opened : after (opening old) (seen new) ≡ state new = state_is old new (s.added ++ t.added) (tries_trans old now new s.added t.added s.tries t.tries) in
-    let x = t.names.there.0 in
-    let live : WasLive old new r = record {
-      moment = seen new;
-      later = (tries_trans old now new s.added t.added s.tries t.tries).steps.grows;
-      early = prefix_self (seen new);
-      row = x;
-      found = subst (λ (q : Queue). row_at q r ≡ Some x) (sym opened) t.names.there.1;
-      live = t.live x t.names.there.1;
-    } in record {
+    let live : WasLive old new r = live_from old now new s.added r s.tries t.live in record {
       added = s.added ++ t.added;
       tries = tries_trans old now new s.added t.added s.tries t.tries;
       marked = mark_on s.added t.added l mark s.marked;

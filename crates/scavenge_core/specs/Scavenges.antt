@@ -15,16 +15,7 @@ use Rattle.entry_table.specs.declared.pass.Pass.{Pass}
 use Rattle.entry_table.specs.Passes.{opening, seen, state}
 use Rattle.entry_table.specs.Views.{entry}
 use Rattle.scavenge_core.specs.Shown.{link_after, counted}
-use Rattle.scavenge_core.specs.Skips.{Tries, EndShown}
-
--- row r was not deleted at some moment between what the two passes had seen
-pub record WasLive (old new : Pass) (r : ℕ) : Type 0 where
-  pub moment : List Deed
-  pub later : IsPrefix (seen old) moment
-  pub early : IsPrefix moment (seen new)
-  pub row : Row
-  pub found : row_at (after (opening old) moment) r ≡ Some row
-  pub live : row.state ≢ Deleted
+use Rattle.scavenge_core.specs.Skips.{Tries, EndShown, WasLive}
 
 -- Along the links that were last shown, one comes from stop w of list l to these rows in turn. Each was live at some
 -- moment in between.

@@ -1,7 +1,9 @@
-use Rattle.std.proofs.Common.{sym, ap, ℕ, subst, []}
+use Rattle.std.proofs.Common.{refl, sym, ap, ◌∙◌, ℕ, subst, []}
 use Rattle.acts_core.specs.Asked.{Enters}
 use Rattle.entry_table.specs.Helps.{Helpable}
-use Rattle.entry_table.specs.Passes.{state}
+use Rattle.entry_table.specs.Passes.{shown, state}
+use Rattle.entry_table.specs.Tries.{tries}
+use Rattle.entry_table.proofs.Trying.{tries_other}
 use Rattle.entry_calls.proofs.Running.{enters_later, ran_then, ran_one, stop_ran}
 use Rattle.entry_calls.proofs.Putting.{tail_stop, helpable, lists_on, appended_whole}
 use Rattle.entry_calls.proofs.appends.append.Goals as goal
@@ -34,5 +36,6 @@ returns-clause-appended g c =
     let p0 = c.args.pass.now in let p1 = c.describe.new.pass in let p2 = c.look-tail.new.pass in let p3 = c.link_behind.new.pass in let p4 = c.help_tail.new.pass in
     let k = c.look-tail.ensures in let h = c.help_tail.ensures in
     let ran = ran_then p0 p1 p2 [] c.describe.ensures.ran (ran_one p1 p2 _ k.kept k.rights.0 k.rights.1 k.did k.shown) in
-    appended_whole p0 p2 p3 p4 c.args.draft.row c.describe.new.draft.row c.look-tail.result c.args.slip.now (g.C.Freight.goods c.args.draft.cargo) (g.C.Freight.goods c.describe.new.draft.cargo) c.describe.ensures.same.0 (ap g.C.Freight.goods c.describe.ensures.same.1) ran c.link_behind.ensures.appended
-    (ran_one p3 p4 _ h.kept h.rights.0 h.rights.1 h.did h.shown.2)
+    appended_whole p0 p2 p3 p4 c.args.draft.row c.describe.new.draft.row c.look-tail.result c.args.slip.now (g.C.Freight.goods c.args.draft.cargo) (g.C.Freight.goods c.describe.new.draft.cargo) c.describe.ensures.same.0 (ap g.C.Freight.goods c.describe.ensures.same.1) ran
+    (ap tries k.shown ∙ tries_other (shown p1) _ refl ∙ c.describe.ensures.tries) c.link_behind.ensures.appended
+    (ran_one p3 p4 _ h.kept h.rights.0 h.rights.1 h.did h.shown.2) (ap tries h.shown.2 ∙ tries_other (shown p3) _ refl)

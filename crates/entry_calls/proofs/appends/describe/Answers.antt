@@ -1,37 +1,23 @@
-use Rattle.std.proofs.Common.{rules, refl, ◌∙◌, []}
+use Rattle.std.proofs.Common.{rules, refl, sym, ◌∙◌, ℕ, subst, []}
 use Rattle.queue_model.specs.declared.steps.DraftWord.TheVariants as drafts
-use Rattle.entry_calls.proofs.Running.{ran_then, ran_store, drawn_on, describes}
+use Rattle.entry_table.specs.declared.view.Drawing.{Drawing}
+use Rattle.entry_table.specs.Views.{blank_drawing, with_word}
+use Rattle.entry_calls.specs.Appends.{Drafts}
+use Rattle.entry_calls.proofs.Running.{ran_then, describes}
 use Rattle.entry_calls.proofs.appends.describe.Goals as goal
-
-pub store_draft-requires-2-clause-draft : goal.store_draft-requires-2-clause-draft
-store_draft-requires-2-clause-draft g c =
-    drawn_on c.args.pass.now c.store_draft.new.pass c.args.draft.now.row c.store_draft.new.draft.row _ drafts.Mask c.store_draft.ensures.kept c.store_draft.ensures.view c.store_draft.ensures.same.0 c.requires.drawn
-
-pub store_draft-requires-3-clause-draft : goal.store_draft-requires-3-clause-draft
-store_draft-requires-3-clause-draft g c =
-    drawn_on c.store_draft.new.pass c.store_draft-2.new.pass c.store_draft.new.draft.row c.store_draft-2.new.draft.row _ drafts.Ident c.store_draft-2.ensures.kept c.store_draft-2.ensures.view c.store_draft-2.ensures.same.0
-    (drawn_on c.args.pass.now c.store_draft.new.pass c.args.draft.now.row c.store_draft.new.draft.row _ drafts.Mask c.store_draft.ensures.kept c.store_draft.ensures.view c.store_draft.ensures.same.0 c.requires.drawn)
-
-pub store_draft-requires-4-clause-draft : goal.store_draft-requires-4-clause-draft
-store_draft-requires-4-clause-draft g c =
-    drawn_on c.store_draft-2.new.pass c.store_draft-3.new.pass c.store_draft-2.new.draft.row c.store_draft-3.new.draft.row _ drafts.Size c.store_draft-3.ensures.kept c.store_draft-3.ensures.view c.store_draft-3.ensures.same.0
-    (drawn_on c.store_draft.new.pass c.store_draft-2.new.pass c.store_draft.new.draft.row c.store_draft-2.new.draft.row _ drafts.Ident c.store_draft-2.ensures.kept c.store_draft-2.ensures.view c.store_draft-2.ensures.same.0
-    (drawn_on c.args.pass.now c.store_draft.new.pass c.args.draft.now.row c.store_draft.new.draft.row _ drafts.Mask c.store_draft.ensures.kept c.store_draft.ensures.view c.store_draft.ensures.same.0 c.requires.drawn))
-
-pub returns-clause-ran : goal.returns-clause-ran
-returns-clause-ran g c =
-    let p0 = c.args.pass.now in let p1 = c.store_draft.new.pass in let p2 = c.store_draft-2.new.pass in let p3 = c.store_draft-3.new.pass in let p4 = c.store_draft-4.new.pass in
-    ran_then p0 p3 p4 [] (ran_then p0 p2 p3 [] (ran_then p0 p1 p2 []
-    (ran_store p0 p1 _ _ drafts.Mask c.store_draft.ensures.kept c.store_draft.ensures.did c.store_draft.ensures.view)
-    (ran_store p1 p2 _ _ drafts.Ident c.store_draft-2.ensures.kept c.store_draft-2.ensures.did c.store_draft-2.ensures.view))
-    (ran_store p2 p3 _ _ drafts.Size c.store_draft-3.ensures.kept c.store_draft-3.ensures.did c.store_draft-3.ensures.view))
-    (ran_store p3 p4 _ _ drafts.List c.store_draft-4.ensures.kept c.store_draft-4.ensures.did c.store_draft-4.ensures.view)
 
 pub returns-clause-described : goal.returns-clause-described
 returns-clause-described g c =
-    let e1 = c.store_draft.ensures.same.0 in
-    let e2 = c.store_draft-2.ensures.same.0 ∙ e1 in
-    let e3 = c.store_draft-3.ensures.same.0 ∙ e2 in
-    let shape = c.store_draft-4.ensures.kept.shape ∙ c.store_draft-3.ensures.kept.shape ∙ c.store_draft-2.ensures.kept.shape ∙ c.store_draft.ensures.kept.shape in
-    describes c.args.pass.now c.store_draft.new.pass c.store_draft-2.new.pass c.store_draft-3.new.pass c.store_draft-4.new.pass c.args.draft.now.row _ _ _ c.args.slip.now _ _ _ _ c.requires.drawn e1 e2 e3
-    c.store_draft.ensures.view c.store_draft-2.ensures.view c.store_draft-3.ensures.view c.store_draft-4.ensures.view refl refl refl (search rules) shape
+    let row : ℕ = c.args.draft.now.row in
+    let p1 = c.write_down.new.pass in let p2 = c.write_down-2.new.pass in let p3 = c.write_down-3.new.pass in let p4 = c.write_down-4.new.pass in
+    let e1 = c.write_down.ensures.same.0 in
+    let e2 = c.write_down-2.ensures.same.0 ∙ e1 in
+    let e3 = c.write_down-3.ensures.same.0 ∙ e2 in
+    let d1 : Drawing = with_word drafts.Mask c.args.slip.now.mask (blank_drawing row) in
+    let d2 : Drawing = with_word drafts.Ident c.args.slip.now.id d1 in
+    let d3 : Drawing = with_word drafts.Size c.args.slip.now.size d2 in
+    let w1 : Drafts p1 row d1 = c.write_down.ensures.written (blank_drawing row) c.requires.blank refl in
+    let w2 : Drafts p2 row d2 = subst (λ (k : ℕ). Drafts p2 k d2) e1 (c.write_down-2.ensures.written d1 (subst (λ (k : ℕ). Drafts p1 k d1) (sym e1) w1) refl) in
+    let w3 : Drafts p3 row d3 = subst (λ (k : ℕ). Drafts p3 k d3) e2 (c.write_down-3.ensures.written d2 (subst (λ (k : ℕ). Drafts p2 k d2) (sym e2) w2) refl) in
+    let w4 = subst (λ (k : ℕ). Drafts p4 k (with_word drafts.List c.from.result d3)) e3 (c.write_down-4.ensures.written d3 (subst (λ (k : ℕ). Drafts p3 k d3) (sym e3) w3) refl) in
+    describes p4 row c.args.slip.now _ (search rules) w4

@@ -3,7 +3,7 @@ use Rattle.acts_core.specs.Asked.{Enters}
 use Rattle.entry_table.specs.Passes.{state}
 use Rattle.entry_calls.specs.Appends.{Described}
 use Rattle.entry_calls.proofs.Running.{enters_later, ran_then, stop_ran}
-use Rattle.entry_calls.proofs.Putting.{appended_after, turn_smaller, turn_past}
+use Rattle.entry_calls.proofs.Putting.{appended_after, turn_smaller, turn_past, turn_tries}
 use Rattle.entry_calls.proofs.appends.link_behind.Goals as goal
 
 pub turn-requires-clause-enters : goal.turn-requires-clause-enters
@@ -15,7 +15,7 @@ turn-requires-clause-enters g c =
 pub returns-in-Linked-clause-appended : goal.returns-in-Linked-clause-appended
 returns-in-Linked-clause-appended g c =
     let i = c.turns.invariant in
-    appended_after c.args.pass.now c.turns.pass c.turn.new.pass c.args.draft.row c.turns.draft.row c.args.tail c.turns.stop c.args.slip.now (g.C.Freight.goods c.args.draft.cargo) (g.C.Freight.goods c.turns.draft.cargo) i.ran i.same_row (ap g.C.Freight.goods i.same_cargo) i.began i.stands i.past c.in-Linked.ensures.turned
+    appended_after c.args.pass.now c.turns.pass c.turn.new.pass c.args.draft.row c.turns.draft.row c.args.tail c.turns.stop c.args.slip.now (g.C.Freight.goods c.args.draft.cargo) (g.C.Freight.goods c.turns.draft.cargo) i.ran i.same_row (ap g.C.Freight.goods i.same_cargo) i.began i.stands i.past i.tried c.in-Linked.ensures.turned
 
 pub turns-smaller : goal.turns-smaller
 turns-smaller g c = let i = c.turns.invariant in turn_smaller c.args.pass.now c.turns.pass c.turn.new.pass c.turns.draft c.in-Behind.back c.args.tail c.turns.stop c.in-Behind.next c.args.slip.now i.ran i.stands c.in-Behind.ensures.turned
@@ -32,4 +32,5 @@ turns-preserved g c =
       stands = b.stands;
       began = (stop_ran c.turns.pass c.turn.new.pass c.args.slip.now.list c.args.tail b.ran.keeps.kept.opening b.ran.did.prefix i.began).0;
       past = turn_past c.args.pass.now c.turns.pass c.turn.new.pass c.turns.draft c.in-Behind.back c.args.tail c.turns.stop c.in-Behind.next c.args.slip.now i.ran i.stands b i.began i.past;
+      tried = turn_tries c.args.pass.now c.turns.pass c.turn.new.pass c.turns.draft c.in-Behind.back c.args.tail c.turns.stop c.in-Behind.next c.args.slip.now i.ran i.stands b i.began i.tried;
     }

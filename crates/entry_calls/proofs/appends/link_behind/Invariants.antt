@@ -1,7 +1,8 @@
-use Rattle.std.proofs.Common.{◌≡◌, ◌≤◌, ◌-◌, []}
+use Rattle.std.proofs.Common.{◌≡◌, ◌≤◌, ◌+◌, ◌-◌, []}
 use Rattle.acts_core.specs.Walks.{reach, IsStop}
-use Rattle.entry_table.specs.Passes.{state, view}
+use Rattle.entry_table.specs.Passes.{shown, state, view}
 use Rattle.entry_table.specs.Sights.{Serves}
+use Rattle.entry_table.specs.Tries.{tries}
 use Rattle.entry_calls.specs.Appends.{Described, Ran}
 use Rattle.entry_calls.proofs.appends.link_behind.Given as goal
 
@@ -15,6 +16,7 @@ invariant-turns g l = record {
   stands : IsStop (state l.pass) l.slip.list l.stop;
   began : IsStop (state l.pass) l.slip.list l.tail;
   past : reach (state l.pass) l.tail ≤ reach (state l.pass) l.stop;
+  tried : tries (shown l.pass) + reach (state l.pass) l.tail ≤ tries (shown l.fn.pass) + reach (state l.pass) l.stop;
 }
 
 abbrev pub decreases-turns : goal.decreases-turns

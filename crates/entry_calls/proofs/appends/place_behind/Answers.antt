@@ -1,6 +1,8 @@
-use Rattle.std.proofs.Common.{arith, ◌-◌, ap, ◌∙◌}
+use Rattle.std.proofs.Common.{arith, ◌-◌, refl, ap, ◌∙◌}
 use Rattle.entry_table.specs.declared.view.Shape.{Shape}
-use Rattle.entry_table.specs.Passes.{view, state}
+use Rattle.entry_table.specs.Passes.{view, shown, state}
+use Rattle.entry_table.specs.Tries.{tries}
+use Rattle.entry_table.proofs.Trying.{tries_other}
 use Rattle.entry_table.proofs.Following.{place_low}
 use Rattle.entry_calls.proofs.Changes.{row_later}
 use Rattle.entry_calls.proofs.Running.{reach_some, stop_row}
@@ -16,6 +18,9 @@ overflow_add-result g c =
     let low = place_low (view new).shape (state new) (c.args.stop - 1) y.0 new.within y.1 in
     let same = ap (λ (s : Shape). s.rows) (c.look.ensures.kept.shape ∙ c.requires.serves.pass.shape) in
     let rows = c.args.entries.now.rows in omega (arith, word, low, same, rows)
+
+pub returns-clause-tries : goal.returns-clause-tries
+returns-clause-tries g c = ap tries c.look.ensures.shown ∙ tries_other (shown c.args.pass.now) _ refl
 
 pub returns-clause-place : goal.returns-clause-place
 returns-clause-place g c =

@@ -13,7 +13,7 @@ vacant-requires g c =
 pub invariant_of-entries : goal.invariant_of-entries
 invariant_of-entries g c =
     let t = c.in_ok-table.ensures in record {
-      room = (c.in_ok-parcels.ensures.len, c.in_ok-parcels.ensures.capacity, c.in_ok-rest.ensures.len, c.in_ok-rest.ensures.capacity);
+      room = (c.in_ok-rest.ensures.len, c.in_ok-rest.ensures.capacity);
       wide = t.0 ∙ ap length (c.as_slice.ensures.value ∙ c.in_ok-words.ensures) ∙ (begins g.C.Freight.goods c.args.shape c.requires.rows c.requires.consumers).1.stands.shaped.long;
       slots = t.1;
       keyed = t.5;

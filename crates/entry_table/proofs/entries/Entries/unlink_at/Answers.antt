@@ -1,12 +1,11 @@
-use Rattle.std.proofs.Common.{arith, ◌≡◌, ◌==◌, ◌+◌, suc, sym, ap, ◌∙◌, subst, ℕ}
+use Rattle.std.proofs.Common.{arith, ◌≡◌, ◌+◌, suc, sym, ap, ◌∙◌, subst, ℕ}
 use Rattle.queue_model.specs.declared.steps.Node.{Node}
 use Rattle.link_core.specs.Layout.{link_of}
 use Rattle.entry_table.specs.declared.view.Shape.{Shape}
 use Rattle.entry_table.specs.Skips.{unlinking}
-use Rattle.entry_table.specs.Skips.{Unlinks as DidUnlink}
 use Rattle.entry_table.specs.Views.{rest_of}
 use Rattle.entry_table.proofs.Places.{node_low}
-use Rattle.entry_table.proofs.Skipped.{unlink_at, did_unlink}
+use Rattle.entry_table.proofs.Skipped.{unlink_at}
 use Rattle.entry_table.proofs.entries.Entries.unlink_at.Goals as goal
 
 pub compare_exchange-requires : goal.compare_exchange-requires
@@ -22,9 +21,3 @@ compare_exchange-requires g c =
 pub returns-clause-told : goal.returns-clause-told
 returns-clause-told g c =
     subst (λ (z : Node × ℕ × ℕ). unlinking z.0 z.1 z.2 c.args.seat.now.me c.compare_exchange.result c.compare_exchange.new.seat.me) (λ j. (c.requires.picked.0 j, c.requires.picked.1 j, c.requires.picked.2 j)) c.compare_exchange.ensures.2
-
-pub returns-clause-unlinks : goal.returns-clause-unlinks
-returns-clause-unlinks g c =
-    subst (λ (k : ℕ). DidUnlink c.args.seat.now.me.0 c.compare_exchange.new.seat.me.0 c.args.at c.args.from c.args.to (c.compare_exchange.result == k)) (let e : suc c.args.from ≡ c.args.from + 1 = omega arith in e)
-    (did_unlink c.args.at c.args.from c.args.to c.args.seat.now.me c.compare_exchange.result c.compare_exchange.new.seat.me
-    (subst (λ (z : Node × ℕ × ℕ). unlinking z.0 z.1 z.2 c.args.seat.now.me c.compare_exchange.result c.compare_exchange.new.seat.me) (λ j. (c.requires.picked.0 j, c.requires.picked.1 j, c.requires.picked.2 j)) c.compare_exchange.ensures.2))
