@@ -56,9 +56,9 @@ pub record Files
     (def : Defined) (ks : List Kept) (left : List (RestEntry Parcel)) (outdated : List Kept) (texts : BTreeSet (Vec ℕ Global))
     : Type 0
   where
-    pub left : AreResumed def (staying def.kind ks) (reverse left)
-    pub outdated : reverse outdated ≡ giving_way def.kind ks
-    pub texts : HasTexts def.kind ks texts
+    pub stay : AreResumed def (staying def.kind ks) (reverse left)
+    pub gone : reverse outdated ≡ giving_way def.kind ks
+    pub met : HasTexts def.kind ks texts
 
 -- so many queues go on with their entries, in the order of definition
 pub record ResumesSoFar (n : ℕ) (defs : List Defined) (live : List Kept) (left : Remains) (outdated : List (Vec Kept Global)) : Type 0 where

@@ -12,14 +12,14 @@ use recover_core::Kept;
 use sqlite_items::Items;
 use std::alloc::Global;
 
-/// So many lists without entries.
-fn no_entries(alloc: Global, lists: usize) -> Result<Vec<Vec<Kept>>, NoMemory>
-    ensures { IfOk result (λ v. (length v.items ≡ lists)) }
+/// A list without entries for each queue.
+fn no_entries(alloc: Global, defs: &Defs) -> Result<Vec<Vec<Kept>>, NoMemory>
+    ensures { IfOk result (λ lists. AreDealt (queues_in defs.now) [] lists.items) }
 {
-    let Ok(mut none) = Vec::with_capacity(alloc, lists) else {
+    let Ok(mut none) = Vec::with_capacity(alloc, defs.queues.len()) else {
         return Err(NoMemory);
     };
-    for _ in 0..lists {
+    for _at in 0..defs.queues.len() {
         none.push_reserved(Vec::new(alloc));
     }
     Ok(none)
@@ -57,7 +57,7 @@ pub(crate) fn deal(
     requires few { length (queues_in defs.now) ≤ most_queues }
     ensures { IfOk result (λ lists. AreDealt (queues_in defs.now) live lists.items) }
 {
-    let mut lists = no_entries(alloc, defs.queues.len())?;
+    let mut lists = no_entries(alloc, defs)?;
     let mut rest = live;
     'entries: while let Some(entry) = rest.pop() {
         deal_one(defs, entry, &mut lists)?;

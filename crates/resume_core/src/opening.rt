@@ -33,7 +33,7 @@ pub struct Resumed {
 }
 
 /// The entry of a queue, by its slip.
-fn resumed(slip: Slip, entry: Kept) -> RestEntry<Parcel>
+fn available(slip: Slip, entry: Kept) -> RestEntry<Parcel>
     ensures { (def : Defined) → IsSlip def entry.message slip
         → FitsQueue (lists_of def.kind) (length def.consumers) slip → HasNoKey def.kind slip.key
         → IsResumed def entry result }
@@ -73,7 +73,7 @@ fn file(
             Err(_) => Err(NoMemory),
         };
     }
-    match left.push(resumed(slip, entry)) {
+    match left.push(available(slip, entry)) {
         Ok(()) => Ok(()),
         Err(_) => Err(NoMemory),
     }
