@@ -19,7 +19,7 @@ use Rattle.resume_core.specs.Faults.{has_double, is_same, puts_live}
 use Rattle.resume_core.specs.Live.{is_number, lives_as, number_of}
 use Rattle.resume_core.specs.Resuming.{PutsOnce}
 use Rattle.resume_core.specs.Steps.{HasKeys, puts_key}
-use Rattle.resume_core.proofs.Numbers.{any_same, count_more, first_fails, lives_id, lives_number, none_counted, rest_fails}
+use Rattle.resume_core.proofs.Named.{any_same, count_more, first_fails, lives_id, lives_number, none_counted, rest_fails}
 
 -- One more entry
 
@@ -35,7 +35,7 @@ module _ (defs : List Defined) (live : List Kept) (i : ℕ) (k : Kept) (q : ℕ)
     (low : i < length live) (is : k ≡ get_or live i k) (number : number_of defs k ≡ Some q) (has : HasKeys defs (take i live) keys)
     (same : has_double (take i live) (drop i live) ≡ has_double [] live) where
   here : has_double (take i live) (drop i live) ≡ (list_any (is_same k) (take i live) || has_double (take i live ++ k ∷ []) (drop (i + 1) live))
-  here = ap (has_double (take i live)) (drop-cons live i k low ∙ (λ j. sym is j ∷ drop (add-one i (~ j)) live))
+  here = ap (has_double (take i live)) (drop-cons live i k low ∙ (λ j. sym is j ∷ drop (sym (add-one i) j) live))
 
   found : list_any (is_same k) (take i live) ≡ contains put_cmp keys (q, k.message.id)
   found = any_same defs q k (take i live) number ∙ sym (has q k.message.id)
@@ -142,9 +142,9 @@ not_put defs live q id Rollback lives none = refl
 none_put : (defs : List Defined) (live : List Kept) (q id : ℕ) (ops : List Op) → list_any (lives_as defs q id) live ≡ true → AllByRecursion (λ op. puts_live defs live op.what ≡ false) ops → count_by (λ op. is_put_of q id op.what) ops ≡ 0
 none_put defs live q id [] lives all = refl
 none_put defs live q id (op ∷ ops) lives all =
-    count_more (λ (op : Op). is_put_of q id op.what) op ops
-    ∙ ap (λ (b : Bool). cond b 1 0 + count_by (λ (op : Op). is_put_of q id op.what) ops) (not_put defs live q id op.what lives all.0)
-    ∙ none_put defs live q id ops lives all.1
+    let more = count_more (λ (op : Op). is_put_of q id op.what) op ops ∙ ap (λ (b : Bool). cond b 1 0 + count_by (λ (op : Op). is_put_of q id op.what) ops) (not_put defs live q id op.what lives all.0) in
+    let rest = none_put defs live q id ops lives all.1 in
+    omega (arith, more, rest)
 
 pub once_in_all : (defs : List Defined) (live : List Kept) (ops : List Op) → has_double [] live ≡ false → AllByRecursion (λ op. puts_live defs live op.what ≡ false) ops → PutsOnce ops
     → (q id : ℕ) → count_by (lives_as defs q id) live + count_by (λ op. is_put_of q id op.what) ops ≤ 1

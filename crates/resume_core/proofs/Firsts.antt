@@ -53,10 +53,10 @@ none_map (op ∷ ops) e = absurd (cc)
 
 pub filter_none : {X : Type 0} (test : X → Bool) (xs : List X) → filter test xs ≡ [] → AllByRecursion (λ x. test x ≡ false) xs
 filter_none test [] e = tt
-filter_none {X} test (x ∷ xs) e = by_test (test x) refl e where
-  by_test : (b : Bool) → test x ≡ b → cond b (x ∷ filter test xs) (filter test xs) ≡ [] → AllByRecursion (λ x. test x ≡ false) (x ∷ xs)
-  by_test true is h = absurd (cc)
-  by_test false is h = (is, filter_none test xs h)
+filter_none {X} test (x ∷ xs) e = by_test (test x) (filter_none test xs) refl e where
+  by_test : (b : Bool) → (filter test xs ≡ [] → AllByRecursion (λ x. test x ≡ false) xs) → test x ≡ b → cond b (x ∷ filter test xs) (filter test xs) ≡ [] → AllByRecursion (λ x. test x ≡ false) (x ∷ xs)
+  by_test true later is h = absurd (cc)
+  by_test false later is h = (is, later h)
 
 pub first_none : (test : Op → Bool) (ops : List Op) → first_line test ops ≡ None → AllByRecursion (λ op. test op ≡ false) ops
 first_none test ops e = filter_none test ops (none_map (filter test ops) (least_none (map (λ (op : Op). op.line) (filter test ops)) e))

@@ -11,8 +11,8 @@ use Rattle.queue_model.specs.Table.{most_entries}
 use Rattle.acts_core.specs.Load.{Load}
 use Rattle.acts_core.specs.declared.cargoes.RestEntry.{RestEntry}
 use Rattle.txn_core.specs.declared.parcels.Parcel.{Parcel}
-use Rattle.txn_core.specs.Parcels.{load_of, shown}
-use Rattle.txn_core.specs.Shown.{Shown, load}
+use Rattle.txn_core.specs.Parcels.{load_of}
+use Rattle.txn_core.specs.Shown.{fresh, load}
 use Rattle.fields_read.specs.Forms.{first_of}
 use Rattle.fields_read.specs.Faults.{cause_if}
 use Rattle.defs_read.specs.Defined.{Defined}
@@ -33,7 +33,7 @@ use Rattle.resume_core.specs.Resumed.{AreResumed, IsResumed, Remains, Resumes}
 use Rattle.resume_core.specs.Resuming.{CanResume, PutsOnce}
 use Rattle.resume_core.proofs.Doubling.{once_in_all}
 use Rattle.resume_core.proofs.Firsts.{first_none}
-use Rattle.resume_core.proofs.Numbers.{count_more, none_counted}
+use Rattle.resume_core.proofs.Named.{count_more, none_counted}
 use Rattle.resume_core.proofs.Passing.{few_unless}
 use Rattle.resume_core.proofs.Places.{get_low, get_some}
 
@@ -107,37 +107,34 @@ module _ (kind : QueueKind) (p : Kept → Bool) where
   -- no more of those that stay pass a test than of all
   pub staying_fewer : (ks : List Kept) → count_by p (staying kind ks) ≤ count_by p ks
   staying_fewer [] = omega arith
-  staying_fewer (k ∷ ks) = by_test (gives_way kind (key_of kind k.message) ks) where
-    by_test : (b : Bool) → count_by p (cond b (staying kind ks) (k ∷ staying kind ks)) ≤ count_by p (k ∷ ks)
-    by_test true = let a = count_more p k ks in let rest = staying_fewer ks in omega (arith, a, rest)
-    by_test false = let a = count_more p k ks in let b = count_more p k (staying kind ks) in let rest = staying_fewer ks in omega (arith, a, b, rest)
+  staying_fewer (k ∷ ks) = by_test (gives_way kind (key_of kind k.message) ks) (staying_fewer ks) where
+    by_test : (b : Bool) → count_by p (staying kind ks) ≤ count_by p ks → count_by p (cond b (staying kind ks) (k ∷ staying kind ks)) ≤ count_by p (k ∷ ks)
+    by_test true rest = let a = count_more p k ks in omega (arith, a, rest)
+    by_test false rest = let a = count_more p k ks in let b = count_more p k (staying kind ks) in omega (arith, a, b, rest)
 
 -- those that stay and those that give way are all
 pub parted : (kind : QueueKind) (ks : List Kept) → length (staying kind ks) + length (giving_way kind ks) ≡ length ks
 parted kind [] = refl
-parted kind (k ∷ ks) = by_test (gives_way kind (key_of kind k.message) ks) where
-  by_test : (b : Bool) → length (cond b (staying kind ks) (k ∷ staying kind ks)) + length (cond b (k ∷ giving_way kind ks) (giving_way kind ks)) ≡ suc (length ks)
-  by_test true = let rest = parted kind ks in omega (arith, rest)
-  by_test false = let rest = parted kind ks in omega (arith, rest)
+parted kind (k ∷ ks) = by_test (gives_way kind (key_of kind k.message) ks) (parted kind ks) where
+  by_test : (b : Bool) → length (staying kind ks) + length (giving_way kind ks) ≡ length ks → length (cond b (staying kind ks) (k ∷ staying kind ks)) + length (cond b (k ∷ giving_way kind ks) (giving_way kind ks)) ≡ suc (length ks)
+  by_test true rest = omega (arith, rest)
+  by_test false rest = omega (arith, rest)
 
 -- those of a queue that have an id
 with_id : (defs : List Defined) (q id : ℕ) (live : List Kept) → count_by (λ k. k.message.id == id) (live_in defs q live) ≡ count_by (lives_as defs q id) live
 with_id defs q id [] = refl
-with_id defs q id (k ∷ ks) = by_test (is_of defs q k) refl ∙ sym (count_more (lives_as defs q id) k ks) where
-  by_test : (b : Bool) → is_of defs q k ≡ b → count_by (λ (k : Kept). k.message.id == id) (cond b (k ∷ live_in defs q ks) (live_in defs q ks)) ≡ cond (lives_as defs q id k) 1 0 + count_by (lives_as defs q id) ks
-  by_test true e =
-      count_more (λ (k : Kept). k.message.id == id) k (live_in defs q ks)
-      ∙ (λ i. cond (sym e i && (k.message.id == id)) 1 0 + with_id defs q id ks i)
-  by_test false e =
-      with_id defs q id ks
-      ∙ ap (λ (b : Bool). cond (b && (k.message.id == id)) 1 0 + count_by (lives_as defs q id) ks) (sym e)
+with_id defs q id (k ∷ ks) = by_test (is_of defs q k) (with_id defs q id ks) ∙ sym (count_more (lives_as defs q id) k ks) where
+  by_test : (b : Bool) → count_by (λ (k : Kept). k.message.id == id) (live_in defs q ks) ≡ count_by (lives_as defs q id) ks
+      → count_by (λ (k : Kept). k.message.id == id) (cond b (k ∷ live_in defs q ks) (live_in defs q ks)) ≡ cond (b && (k.message.id == id)) 1 0 + count_by (lives_as defs q id) ks
+  by_test true rest = count_more (λ (k : Kept). k.message.id == id) k (live_in defs q ks) ∙ ap (λ (n : ℕ). cond (k.message.id == id) 1 0 + n) rest
+  by_test false rest = omega (arith, rest)
 
 few_in : (defs : List Defined) (q : ℕ) (live : List Kept) → length (live_in defs q live) ≤ length live
 few_in defs q live = subst (λ (n : ℕ). n ≤ length live) (sym (length-filter (is_of defs q) live)) (count_by-le-length (is_of defs q) live)
 
 -- the definition of a queue that goes on
 module _ (defs : List Defined) (live : List Kept) (left : Remains) (outdated : List (Vec Kept Global)) (r : Resumes defs live left outdated) (q : ℕ) (es : Vec (RestEntry Parcel) Global) (here : slice_get left q ≡ Some es) where
-  def_at : (def : Defined) × (slice_get defs q ≡ Some def)
+  pub def_at : (def : Defined) × (slice_get defs q ≡ Some def)
   def_at = get_some defs q (let low = get_low left q es here in let many = r.as_many in omega (arith, low, many))
 
   pub entries_here : AreResumed def_at.0 (staying def_at.0.kind (live_in defs q live)) es.items
@@ -173,7 +170,7 @@ few_law defs live ops left outdated can r q es here =
 
 may_stand : (def : Defined) (k : Kept) (e : RestEntry Parcel) → IsResumed def k e → MayStand def e
 may_stand def k e r =
-    let same : load_of e.cargo ≡ load _ = ap load r.parcel in
+    let same : load_of e.cargo ≡ load (fresh k.message None k.body_at) = ap load r.parcel in
     record {
       fits = r.fits;
       key = r.key;
@@ -204,17 +201,17 @@ module _ (name text : List ℕ) where
 
   pub key_once : (ks : List Kept) → count_by has (staying (LastValue name) ks) ≤ 1
   key_once [] = omega arith
-  key_once (k ∷ ks) = by_test (gives_way (LastValue name) (key_of (LastValue name) k.message) ks) refl where
-    by_key : (b : Bool) → has k ≡ b → gives_way (LastValue name) (key_of (LastValue name) k.message) ks ≡ false → cond b 1 0 + count_by has (staying (LastValue name) ks) ≤ 1
-    by_key true e none =
+  key_once (k ∷ ks) = by_test (gives_way (LastValue name) (key_of (LastValue name) k.message) ks) (key_once ks) refl where
+    by_key : (b : Bool) → count_by has (staying (LastValue name) ks) ≤ 1 → has k ≡ b → gives_way (LastValue name) (key_of (LastValue name) k.message) ks ≡ false → cond b 1 0 + count_by has (staying (LastValue name) ks) ≤ 1
+    by_key true rest e none =
         let behind = none_counted has ks (alone_behind name text (key_of (LastValue name) k.message) ks e none) in
         let fewer = staying_fewer (LastValue name) has ks in
         omega (arith, behind, fewer)
-    by_key false e none = key_once ks
+    by_key false rest e none = omega (arith, rest)
 
-    by_test : (b : Bool) → gives_way (LastValue name) (key_of (LastValue name) k.message) ks ≡ b → count_by has (cond b (staying (LastValue name) ks) (k ∷ staying (LastValue name) ks)) ≤ 1
-    by_test true e = key_once ks
-    by_test false e = subst (λ (n : ℕ). n ≤ 1) (sym (count_more has k (staying (LastValue name) ks))) (by_key (has k) refl e)
+    by_test : (b : Bool) → count_by has (staying (LastValue name) ks) ≤ 1 → gives_way (LastValue name) (key_of (LastValue name) k.message) ks ≡ b → count_by has (cond b (staying (LastValue name) ks) (k ∷ staying (LastValue name) ks)) ≤ 1
+    by_test true rest e = rest
+    by_test false rest e = subst (λ (n : ℕ). n ≤ 1) (sym (count_more has k (staying (LastValue name) ks))) (by_key (has k) rest refl e)
 
 pub keys_law : KeysOnce
 keys_law defs live left outdated r q def name es at kind here text =

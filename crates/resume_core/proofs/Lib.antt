@@ -1,8 +1,8 @@
 pub mod Firsts
 pub mod Passing
 pub mod Places
-pub mod Numbers
+pub mod Named
 pub mod Doubling
-pub mod Dealing
+pub mod Deals
 pub mod Filing
 pub mod Lawful

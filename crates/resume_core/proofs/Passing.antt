@@ -118,47 +118,49 @@ below_more x n xs = sum_by-cons (λ (y : ℕ). cond (nat_lt y n) 1 0) x xs
 least_reached : (n : ℕ) (ns : List ℕ) → below n ns < up_to n ns → least (filter (nat_le n) ns) ≡ Some n
 least_reached n [] few = absurd (omega (arith, few))
 least_reached n (x ∷ xs) few = ⊎_elim
-    (λ less. lesser less)
-    (λ le. ⊎_elim (λ same. equal same) (λ more. greater more) (eq-or-lt_of_le le))
+    (λ less. lesser (least_reached n xs) less)
+    (λ le. ⊎_elim (λ same. equal same) (λ more. greater (least_reached n xs) more) (eq-or-lt_of_le le))
     (cases_lt x n)
   where
-    counts : cond (nat_lt x n) 1 0 + below n xs < cond (nat_le x n) 1 0 + up_to n xs
-    counts = subst (λ (k : ℕ). k < cond (nat_le x n) 1 0 + up_to n xs) (below_more x n xs) (subst (λ (k : ℕ). below n (x ∷ xs) < k) (one_more x n xs) few)
-
-    lesser : x < n → least (filter (nat_le n) (x ∷ xs)) ≡ Some n
-    lesser less =
-        let a = lt-ltb x n less in
-        let b = le-leb x n (omega (arith, less)) in
-        let c = lt-leb n x less in
-        let rest : below n xs < up_to n xs = omega (arith, subst (λ (z : Bool × Bool). cond z.0 1 0 + below n xs < cond z.1 1 0 + up_to n xs) (λ i. (a i, b i)) counts) in
-        ap (λ (z : Bool). least (cond z (x ∷ filter (nat_le n) xs) (filter (nat_le n) xs))) c ∙ least_reached n xs rest
-
-    equal : n ≡ x → least (filter (nat_le n) (x ∷ xs)) ≡ Some n
-    equal same =
-        ap (λ (z : Bool). least (cond z (x ∷ filter (nat_le n) xs) (filter (nat_le n) xs))) (le-leb n x (omega (arith, same)))
-        ∙ ap (λ (k : ℕ). sooner (Some k) (least (filter (nat_le n) xs))) (sym same)
-        ∙ sooner_above n (least (filter (nat_le n) xs)) (least_above n xs)
-
-    greater : n < x → least (filter (nat_le n) (x ∷ xs)) ≡ Some n
-    greater more =
-        let a = le-ltb x n (omega (arith, more)) in
-        let b = lt-leb x n more in
-        let rest : below n xs < up_to n xs = omega (arith, subst (λ (z : Bool × Bool). cond z.0 1 0 + below n xs < cond z.1 1 0 + up_to n xs) (λ i. (a i, b i)) counts) in
-        ap (λ (z : Bool). least (cond z (x ∷ filter (nat_le n) xs) (filter (nat_le n) xs))) (le-leb n x (omega (arith, more)))
-        ∙ ap (sooner (Some x)) (least_reached n xs rest)
-        ∙ ap (λ (k : ℕ). Some k) (omega (arith, more))
+  counts : cond (nat_lt x n) 1 0 + below n xs < cond (nat_le x n) 1 0 + up_to n xs
+  counts = subst (λ (k : ℕ). k < cond (nat_le x n) 1 0 + up_to n xs) (below_more x n xs) (subst (λ (k : ℕ). below n (x ∷ xs) < k) (one_more x n xs) few)
+  lesser : (below n xs < up_to n xs → least (filter (nat_le n) xs) ≡ Some n) → x < n → least (filter (nat_le n) (x ∷ xs)) ≡ Some n
+  lesser later less =
+      let a = lt-ltb x n less in
+      let b = le-leb x n (omega (arith, less)) in
+      let c = lt-leb n x less in
+      let both = subst (λ (z : Bool × Bool). cond z.0 1 0 + below n xs < cond z.1 1 0 + up_to n xs) (λ i. (a i, b i)) counts in
+      ap (λ (z : Bool). least (cond z (x ∷ filter (nat_le n) xs) (filter (nat_le n) xs))) c ∙ later (omega (arith, both))
+  equal : n ≡ x → least (filter (nat_le n) (x ∷ xs)) ≡ Some n
+  equal same =
+      ap (λ (z : Bool). least (cond z (x ∷ filter (nat_le n) xs) (filter (nat_le n) xs))) (le-leb n x (omega (arith, same)))
+      ∙ ap (λ (k : ℕ). sooner (Some k) (least (filter (nat_le n) xs))) (sym same)
+      ∙ sooner_above n (least (filter (nat_le n) xs)) (least_above n xs)
+  greater : (below n xs < up_to n xs → least (filter (nat_le n) xs) ≡ Some n) → n < x → least (filter (nat_le n) (x ∷ xs)) ≡ Some n
+  greater later more =
+      let a = le-ltb x n (omega (arith, more)) in
+      let b = lt-leb x n more in
+      let both = subst (λ (z : Bool × Bool). cond z.0 1 0 + below n xs < cond z.1 1 0 + up_to n xs) (λ i. (a i, b i)) counts in
+      ap (λ (z : Bool). least (cond z (x ∷ filter (nat_le n) xs) (filter (nat_le n) xs))) (le-leb n x (omega (arith, more)))
+      ∙ ap (sooner (Some x)) (later (omega (arith, both)))
+      ∙ ap (λ (k : ℕ). Some k) (omega (arith, more))
 
 below_none : (ns : List ℕ) → below 0 ns ≡ 0
 below_none [] = refl
-below_none (x ∷ xs) = below_more x 0 xs ∙ ap (λ (z : Bool). cond z 1 0 + below 0 xs) (le-ltb x 0 (omega arith)) ∙ below_none xs
+below_none (x ∷ xs) =
+    let more = below_more x 0 xs ∙ ap (λ (z : Bool). cond z 1 0 + below 0 xs) (le-ltb x 0 (omega arith)) in
+    let rest = below_none xs in
+    omega (arith, more, rest)
 
 -- fewer than n are those that are at most the number before it
 below_before : (k : ℕ) (ns : List ℕ) → below (suc k) ns ≡ up_to k ns
 below_before k [] = refl
-below_before k (x ∷ xs) = below_more x (suc k) xs ∙ by_test (nat_le x k) refl ∙ sym (one_more x k xs) where
-  by_test : (b : Bool) → nat_le x k ≡ b → cond (nat_lt x (suc k)) 1 0 + below (suc k) xs ≡ cond (nat_le x k) 1 0 + up_to k xs
-  by_test true e = ap (λ (z : Bool). cond z 1 0 + below (suc k) xs) (lt-ltb x (suc k) (omega (arith, le_of x k e))) ∙ ap suc (below_before k xs) ∙ ap (λ (z : Bool). cond z 1 0 + up_to k xs) (sym e)
-  by_test false e = ap (λ (z : Bool). cond z 1 0 + below (suc k) xs) (le-ltb x (suc k) (omega (arith, not_le_of x k e))) ∙ below_before k xs ∙ ap (λ (z : Bool). cond z 1 0 + up_to k xs) (sym e)
+below_before k (x ∷ xs) = below_more x (suc k) xs ∙ (λ i. cond (same i) 1 0 + below_before k xs i) ∙ sym (one_more x k xs) where
+  by_test : (b : Bool) → nat_le x k ≡ b → nat_lt x (suc k) ≡ b
+  by_test true e = lt-ltb x (suc k) (omega (arith, le_of x k e))
+  by_test false e = le-ltb x (suc k) (omega (arith, not_le_of x k e))
+  same : nat_lt x (suc k) ≡ nat_le x k
+  same = by_test (nat_le x k) refl
 
 -- where at most r are at most any number below n, at most r are below n
 below_few : (r n : ℕ) (ns : List ℕ) → ((m : ℕ) → m < n → up_to m ns ≤ r) → below n ns ≤ r
@@ -167,12 +169,12 @@ below_few r (suc k) ns first = omega (arith, below_before k ns, first k (omega a
 
 up_to_rises : (n m : ℕ) (ns : List ℕ) → n ≤ m → up_to n ns ≤ up_to m ns
 up_to_rises n m [] le = omega arith
-up_to_rises n m (x ∷ xs) le = subst (λ (k : ℕ). k ≤ up_to m (x ∷ xs)) (sym (one_more x n xs)) (subst (λ (k : ℕ). cond (nat_le x n) 1 0 + up_to n xs ≤ k) (sym (one_more x m xs)) (by_test (nat_le x n) (nat_le x m) refl refl)) where
-  by_test : (b c : Bool) → nat_le x n ≡ b → nat_le x m ≡ c → cond b 1 0 + up_to n xs ≤ cond c 1 0 + up_to m xs
-  by_test true true e f = omega (arith, up_to_rises n m xs le)
-  by_test true false e f = absurd (omega (arith, le_of x n e, not_le_of x m f, le))
-  by_test false true e f = omega (arith, up_to_rises n m xs le)
-  by_test false false e f = omega (arith, up_to_rises n m xs le)
+up_to_rises n m (x ∷ xs) le = subst (λ (k : ℕ). k ≤ up_to m (x ∷ xs)) (sym (one_more x n xs)) (subst (λ (k : ℕ). cond (nat_le x n) 1 0 + up_to n xs ≤ k) (sym (one_more x m xs)) (by_test (nat_le x n) (nat_le x m) (up_to_rises n m xs le) refl refl)) where
+  by_test : (b c : Bool) → up_to n xs ≤ up_to m xs → nat_le x n ≡ b → nat_le x m ≡ c → cond b 1 0 + up_to n xs ≤ cond c 1 0 + up_to m xs
+  by_test true true rest e f = omega (arith, rest)
+  by_test true false rest e f = absurd (omega (arith, le_of x n e, not_le_of x m f, le))
+  by_test false true rest e f = omega (arith, rest)
+  by_test false false rest e f = omega (arith, rest)
 
 -- The put with which there are too many
 
@@ -217,13 +219,16 @@ none_passes live ops few =
 
 -- and the other way round
 
-greatest : List ℕ → ℕ
+abbrev greatest : List ℕ → ℕ
 greatest [] = 0
 greatest (n ∷ ns) = max n (greatest ns)
 
 all_up_to : (n : ℕ) (ns : List ℕ) → greatest ns ≤ n → up_to n ns ≡ length ns
 all_up_to n [] le = refl
-all_up_to n (x ∷ xs) le = one_more x n xs ∙ ap (λ (z : Bool). cond z 1 0 + up_to n xs) (le-leb x n (omega (arith, le))) ∙ ap suc (all_up_to n xs (omega (arith, le)))
+all_up_to n (x ∷ xs) le =
+    let more = one_more x n xs ∙ ap (λ (z : Bool). cond z 1 0 + up_to n xs) (le-leb x n (omega (arith, le))) in
+    let rest = all_up_to n xs (omega (arith, le)) in
+    omega (arith, more, rest)
 
 at_greatest : (P : ℕ → Type 0) (n : ℕ) (ns : List ℕ) → AllByRecursion P (n ∷ ns) → P (greatest (n ∷ ns))
 at_greatest P n [] all = subst P (let e : n ≡ max n 0 = omega arith in e) all.0
@@ -244,3 +249,6 @@ few_where live ops (n ∷ ns) is fits all =
 -- where no put makes too many, there are few
 pub few_unless : (live : ℕ) (ops : List Op) → live ≤ most_entries → passing_line live ops ≡ None → live + all_puts ops ≤ most_entries
 few_unless live ops fits none = few_where live ops (put_lines ops) refl fits (filter_none (are_many live ops) (put_lines ops) (least_none (filter (are_many live ops) (put_lines ops)) none))
+
+pub most_is : most_entries ≡ 524288
+most_is = refl

@@ -1,6 +1,6 @@
 use Rattle.std.proofs.Common.{length}
 use Rattle.defs_read.specs.Defined.{queues_in}
-use Rattle.resume_core.proofs.Dealing.{Deals}
+use Rattle.resume_core.proofs.Deals.{Deals}
 use Rattle.resume_core.proofs.dealing.deal.Given as goal
 
 abbrev pub invariant-entries : goal.invariant-entries

@@ -14,27 +14,27 @@ use Rattle.resume_core.specs.Live.{is_number, is_of, lives_as, number_from, numb
 -- a number that was found is not below the first, and within the list
 pub number_low : (n q : ℕ) (name : List ℕ) (defs : List Defined) → number_from n name defs ≡ Some q → n ≤ q
 number_low n q name [] e = absurd (cc)
-number_low n q name (def ∷ defs) e = by_test (bytes_eq def.name name) e where
-  by_test : (b : Bool) → cond b (Some n) (number_from (n + 1) name defs) ≡ Some q → n ≤ q
-  by_test true h = let is : n ≡ q = cc in omega (arith, is)
-  by_test false h = let low = number_low (n + 1) q name defs h in omega (arith, low)
+number_low n q name (def ∷ defs) e = by_test (bytes_eq def.name name) (number_low (n + 1) q name defs) e where
+  by_test : (b : Bool) → (number_from (n + 1) name defs ≡ Some q → n + 1 ≤ q) → cond b (Some n) (number_from (n + 1) name defs) ≡ Some q → n ≤ q
+  by_test true later h = let is : n ≡ q = cc in omega (arith, is)
+  by_test false later h = let low = later h in omega (arith, low)
 
 pub number_within : (n q : ℕ) (name : List ℕ) (defs : List Defined) → number_from n name defs ≡ Some q → q < n + length defs
 number_within n q name [] e = absurd (cc)
-number_within n q name (def ∷ defs) e = by_test (bytes_eq def.name name) e where
-  by_test : (b : Bool) → cond b (Some n) (number_from (n + 1) name defs) ≡ Some q → q < n + suc (length defs)
-  by_test true h = let is : n ≡ q = cc in omega (arith, is)
-  by_test false h = let low = number_within (n + 1) q name defs h in omega (arith, low)
+number_within n q name (def ∷ defs) e = by_test (bytes_eq def.name name) (number_within (n + 1) q name defs) e where
+  by_test : (b : Bool) → (number_from (n + 1) name defs ≡ Some q → q < n + 1 + length defs) → cond b (Some n) (number_from (n + 1) name defs) ≡ Some q → q < n + suc (length defs)
+  by_test true later h = let is : n ≡ q = cc in omega (arith, is)
+  by_test false later h = let low = later h in omega (arith, low)
 
 -- two names with one number are one name
 pub one_name : (n q : ℕ) (a b : List ℕ) (defs : List Defined) → number_from n a defs ≡ Some q → number_from n b defs ≡ Some q → a ≡ b
 one_name n q a b [] e f = absurd (cc)
-one_name n q a b (def ∷ defs) e f = by_test (bytes_eq def.name a) (bytes_eq def.name b) refl refl e f where
-  by_test : (x y : Bool) → bytes_eq def.name a ≡ x → bytes_eq def.name b ≡ y → cond x (Some n) (number_from (n + 1) a defs) ≡ Some q → cond y (Some n) (number_from (n + 1) b defs) ≡ Some q → a ≡ b
-  by_test true true s t g h = sym ((bytes_eq-Decides def.name a).0 s) ∙ (bytes_eq-Decides def.name b).0 t
-  by_test true false s t g h = let is : n ≡ q = cc in let low = number_low (n + 1) q b defs h in absurd (omega (arith, is, low))
-  by_test false true s t g h = let is : n ≡ q = cc in let low = number_low (n + 1) q a defs g in absurd (omega (arith, is, low))
-  by_test false false s t g h = one_name (n + 1) q a b defs g h
+one_name n q a b (def ∷ defs) e f = by_test (bytes_eq def.name a) (bytes_eq def.name b) (one_name (n + 1) q a b defs) refl refl e f where
+  by_test : (x y : Bool) → (number_from (n + 1) a defs ≡ Some q → number_from (n + 1) b defs ≡ Some q → a ≡ b) → bytes_eq def.name a ≡ x → bytes_eq def.name b ≡ y → cond x (Some n) (number_from (n + 1) a defs) ≡ Some q → cond y (Some n) (number_from (n + 1) b defs) ≡ Some q → a ≡ b
+  by_test true true later s t g h = sym ((bytes_eq-Decides def.name a).0 s) ∙ (bytes_eq-Decides def.name b).0 t
+  by_test true false later s t g h = let is : n ≡ q = cc in let low = number_low (n + 1) q b defs h in absurd (omega (arith, is, low))
+  by_test false true later s t g h = let is : n ≡ q = cc in let low = number_low (n + 1) q a defs g in absurd (omega (arith, is, low))
+  by_test false false later s t g h = later g h
 
 -- Entries
 
@@ -112,9 +112,9 @@ or_rest false b e = e
 pub none_counted : {X : Type 0} (p : X → Bool) (xs : List X) → list_any p xs ≡ false → count_by p xs ≡ 0
 none_counted p [] e = refl
 none_counted p (x ∷ xs) e =
-    count_more p x xs
-    ∙ ap (λ (b : Bool). cond b 1 0 + count_by p xs) (or_none (p x) (list_any p xs) e)
-    ∙ none_counted p xs (or_rest (p x) (list_any p xs) e)
+    let more = count_more p x xs ∙ ap (λ (b : Bool). cond b 1 0 + count_by p xs) (or_none (p x) (list_any p xs) e) in
+    let rest = none_counted p xs (or_rest (p x) (list_any p xs) e) in
+    omega (arith, more, rest)
 
 pub first_fails : (a b : Bool) → (a || b) ≡ false → a ≡ false
 first_fails a b e = or_none a b e
