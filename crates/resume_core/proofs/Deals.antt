@@ -1,13 +1,13 @@
 -- live entries, queue by queue
-use Rattle.std.proofs.Common.{◌≡◌, ◌≢◌, ℕ, zero, suc, ◌+◌, ◌<◌, Bool, true, false, cond, List, [], ◌∷◌, ◌++◌, append_assoc, append-nil, length, length-append, reverse, filter, set, Option, Some, None, refl, sym, ap, ◌∙◌, subst, ⊎_elim, arith, eq-eqb, ne_eqb}
-use Rattle.std.specs.Prelude.{slice_get, Vec, vec_len}
+use Rattle.std.proofs.Common.{◌≡◌, ◌≢◌, ℕ, ◌+◌, Bool, true, false, cond, List, [], ◌∷◌, ◌++◌, append_assoc, append-nil, length, length-append, reverse, set, Some, None, refl, sym, ap, ◌∙◌, subst, ⊎_elim, arith, eq-eqb, ne_eqb}
+use Rattle.std.specs.Prelude.{slice_get, OnOk, Result, Ok, Err, Vec}
 use Rattle.std.specs.declared.alloc.Global.{Global}
 use Rattle.std.proofs.lemmas.List.{length-set, reverse-append}
 use Rattle.defs_read.specs.Defined.{Defined}
 use Rattle.recover_core.specs.declared.kept.Kept.{Kept}
 use Rattle.resume_core.specs.Live.{is_number, is_of, live_in, number_of}
 use Rattle.resume_core.specs.Steps.{AreDealt}
-use Rattle.resume_core.proofs.Places.{get_push, get_set, one}
+use Rattle.resume_core.proofs.Places.{get_push, get_set}
 
 -- no entries yet, in so many lists
 pub record NoneYet (n : ℕ) (lists : List (Vec Kept Global)) : Type 0 where
@@ -78,3 +78,7 @@ deals_more defs all rest rest' k lists lists' popped step d = record {
 
 pub deals_end : (defs : List Defined) (all rest : List Kept) (lists : List (Vec Kept Global)) → rest ≡ [] → Deals defs all rest lists → AreDealt defs all lists
 deals_end defs all rest lists none d = subst (λ (ks : List Kept). AreDealt defs ks lists) (sym (d.parts ∙ ap (λ (xs : List Kept). xs ++ d.done) none)) d.dealt
+
+pub on_ok : {A E P Q : Type 0} (r : Result A E) → OnOk r P → (P → Q) → OnOk r Q
+on_ok (Ok a) p f = f p
+on_ok (Err e) p f = tt

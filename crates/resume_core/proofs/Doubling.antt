@@ -1,13 +1,12 @@
 -- live entries that stand twice, and puts of what is live
-use Rattle.std.proofs.Common.{◌≡◌, ℕ, ◌+◌, ◌<◌, ◌≤◌, Bool, true, false, cond, nat_eq, arith, eqb-true, Option, Some, None, List, [], ◌∷◌, ◌++◌, append_assoc, append-nil, length, take, drop, get_or, drop-cons, refl, sym, ap, ◌∙◌, subst, add-one}
-use Rattle.std.specs.Prelude.{◌==◌, ◌&&◌, ◌||◌, not}
-use Rattle.std.specs.List.{AllByRecursion, count_by, list_all, list_any}
+use Rattle.std.proofs.Common.{◌≡◌, ℕ, ◌+◌, ◌<◌, ◌≤◌, Bool, true, false, cond, nat_eq, arith, eqb-true, Option, Some, List, [], ◌∷◌, ◌++◌, append_assoc, append-nil, length, take, drop, get_or, drop-cons, refl, sym, ap, ◌∙◌, subst, add-one}
+use Rattle.std.specs.Prelude.{◌==◌, ◌&&◌, ◌||◌}
+use Rattle.std.specs.List.{AllByRecursion, count_by, list_any}
 use Rattle.std.specs.Ordering.{is_eq, nat_cmp}
 use Rattle.std.specs.BTreeSet.{BTreeSet, contains}
 use Rattle.std.specs.Cmp.{both_tied, unsigned_tied}
 use Rattle.std.proofs.lemmas.List.{take_more}
 use Rattle.std.proofs.lemmas.List.Folds.{list_any-append}
-use Rattle.message_core.specs.Spelling.{Content}
 use Rattle.defs_read.specs.Defined.{Defined}
 use Rattle.script_read.specs.SoFar.{put_cmp}
 use Rattle.script_read.specs.Scripts.{is_put_of}
@@ -40,15 +39,15 @@ module _ (defs : List Defined) (live : List Kept) (i : ℕ) (k : Kept) (q : ℕ)
   found : list_any (is_same k) (take i live) ≡ contains put_cmp keys (q, k.message.id)
   found = any_same defs q k (take i live) number ∙ sym (has q k.message.id)
 
-  more : take (i + 1) live ≡ take i live ++ k ∷ []
-  more = take_more live i k low ∙ ap (λ (x : Kept). take i live ++ x ∷ []) (sym is)
+  pub taken_more : take (i + 1) live ≡ take i live ++ k ∷ []
+  taken_more = take_more live i k low ∙ ap (λ (x : Kept). take i live ++ x ∷ []) (sym is)
 
   pub double_found : contains put_cmp keys (q, k.message.id) ≡ true → has_double [] live ≡ true
   double_found e = sym same ∙ here ∙ or_true (list_any (is_same k) (take i live)) (has_double (take i live ++ k ∷ []) (drop (i + 1) live)) (found ∙ e)
 
   pub double_later : contains put_cmp keys (q, k.message.id) ≡ false → has_double (take (i + 1) live) (drop (i + 1) live) ≡ has_double [] live
   double_later e =
-      ap (λ (ks : List Kept). has_double ks (drop (i + 1) live)) more
+      ap (λ (ks : List Kept). has_double ks (drop (i + 1) live)) taken_more
       ∙ sym (or_none_after (list_any (is_same k) (take i live)) (has_double (take i live ++ k ∷ []) (drop (i + 1) live)) (has_double (take i live ++ k ∷ []) (drop (i + 1) live)) (found ∙ e) refl)
       ∙ sym here ∙ same
 

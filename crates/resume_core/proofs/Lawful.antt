@@ -1,9 +1,8 @@
 -- the laws on live entries and what queues open with
-use Rattle.std.proofs.Common.{◌≡◌, ℕ, zero, suc, ◌+◌, ◌<◌, ◌≤◌, Bool, true, false, cond, not, nat_lt, List, [], ◌∷◌, ◌++◌, length, filter, Option, Some, None, refl, sym, ap, ◌∙◌, subst, arith}
-use Rattle.std.specs.Prelude.{◌==◌, ◌&&◌, ◌||◌, option_map, slice_get, Vec}
+use Rattle.std.proofs.Common.{◌≡◌, ℕ, suc, ◌+◌, ◌≤◌, Bool, true, false, cond, not, nat_lt, List, [], ◌∷◌, length, Option, Some, None, refl, sym, ap, ◌∙◌, subst, arith}
+use Rattle.std.specs.Prelude.{◌==◌, ◌&&◌, option_map, slice_get, Vec}
 use Rattle.std.specs.declared.alloc.Global.{Global}
 use Rattle.std.specs.List.{AllByRecursion, count_by, list_all, list_any}
-use Rattle.std.specs.Str.{bytes_eq}
 use Rattle.std.proofs.lemmas.Bool.{ltb-false}
 use Rattle.std.proofs.lemmas.List.Sums.{count_by-le-length, length-filter}
 use Rattle.std.proofs.lemmas.Slice.Eq.{bytes_eq-Decides}
@@ -19,18 +18,16 @@ use Rattle.defs_read.specs.Defined.{Defined}
 use Rattle.defs_read.specs.Slips.{key_of}
 use Rattle.defs_read.specs.declared.defs.QueueKind.{QueueKind}
 use Rattle.defs_read.specs.declared.defs.QueueKind.TheVariants.{LastValue}
-use Rattle.script_read.specs.Scripts.{is_put_of}
 use Rattle.script_read.specs.declared.lines.Op.{Op}
 use Rattle.recover_core.specs.declared.kept.Kept.{Kept}
 use Rattle.resume_core.specs.declared.faults.LiveFault.{LiveFault}
-use Rattle.resume_core.specs.declared.faults.LiveCause.TheVariants.{JournalQueue, DoubleLive, TooManyEntries, DoubleId}
+use Rattle.resume_core.specs.declared.faults.LiveCause.TheVariants.{JournalQueue, DoubleLive, TooManyEntries}
 use Rattle.resume_core.specs.Faults.{doubling_line, fault_at, fault_of, has_double, put_fault, puts_live}
-use Rattle.resume_core.specs.Keeping.{gives_way, giving_way, has_key, is_key, staying}
+use Rattle.resume_core.specs.Keeping.{gives_way, giving_way, is_key, staying}
 use Rattle.resume_core.specs.Laws.{EntriesStand, FewEntries, IdsOnce, KeysOnce, MayStand, NoneIsLost, ResumesWithoutCause}
-use Rattle.resume_core.specs.Lines.{all_puts, passing_line}
+use Rattle.resume_core.specs.Lines.{passing_line}
 use Rattle.resume_core.specs.Live.{has_queue, is_of, live_in, lives_as}
 use Rattle.resume_core.specs.Resumed.{AreResumed, IsResumed, Remains, Resumes}
-use Rattle.resume_core.specs.Resuming.{CanResume, PutsOnce}
 use Rattle.resume_core.proofs.Doubling.{once_in_all}
 use Rattle.resume_core.proofs.Firsts.{first_none}
 use Rattle.resume_core.proofs.Named.{count_more, none_counted}

@@ -1,12 +1,11 @@
 -- the numbers of queues, and entries that are the same
-use Rattle.std.proofs.Common.{◌≡◌, ℕ, zero, suc, ◌+◌, ◌<◌, ◌≤◌, Bool, true, false, cond, eqb, nat_eq, arith, eqb-true, eq-eqb, Option, Some, None, List, [], ◌∷◌, ◌++◌, length, map, drop, get_or, drop-cons, refl, sym, ap, ◌∙◌, subst}
+use Rattle.std.proofs.Common.{◌≡◌, ℕ, suc, ◌+◌, ◌<◌, ◌≤◌, Bool, true, false, cond, arith, eqb-true, eq-eqb, Option, Some, None, List, [], ◌∷◌, length, refl, sym, ap, ◌∙◌}
 use Rattle.std.specs.Prelude.{◌==◌, ◌&&◌, ◌||◌}
 use Rattle.std.specs.List.{count_by, list_any}
 use Rattle.std.specs.Str.{bytes_eq}
 use Rattle.std.proofs.lemmas.Slice.Eq.{bytes_eq-Decides}
 use Rattle.std.proofs.lemmas.List.Sums.{sum_by-cons}
-use Rattle.defs_read.specs.Defined.{Defined, defined}
-use Rattle.defs_read.specs.declared.defs.QueueDef.{QueueDef}
+use Rattle.defs_read.specs.Defined.{Defined}
 use Rattle.recover_core.specs.declared.kept.Kept.{Kept}
 use Rattle.resume_core.specs.Faults.{is_same}
 use Rattle.resume_core.specs.Live.{is_number, is_of, lives_as, number_from, number_of}

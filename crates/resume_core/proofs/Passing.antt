@@ -5,9 +5,9 @@ use Rattle.std.specs.List.Sorted.{IsPermutation, IsSorted}
 use Rattle.std.specs.Ordering.{nat_cmp}
 use Rattle.std.proofs.Math.ListN.{get_or}
 use Rattle.std.proofs.Math.Nat.{eq-or-lt_of_le}
-use Rattle.std.proofs.lemmas.Bool.{cases_lt, le-leb, le-ltb, leb-false, leb-true, lt-leb, lt-ltb, ltb-false, ltb-true}
+use Rattle.std.proofs.lemmas.Bool.{cases_lt, le-leb, le-ltb, leb-false, leb-true, lt-leb, lt-ltb, ltb-false}
 use Rattle.std.proofs.lemmas.List.Sums.{count_by-le-length, sum_by-cons}
-use Rattle.std.proofs.lemmas.List.Sorted.{IsNonDecreasingBy-from_sort, length_permutation, sum_by-IsPermutation}
+use Rattle.std.proofs.lemmas.List.Sorted.{IsNonDecreasingBy-from_sort, sum_by-IsPermutation}
 use Rattle.queue_model.specs.Table.{most_entries}
 use Rattle.script_read.specs.declared.lines.Op.{Op}
 use Rattle.resume_core.specs.Lines.{all_puts, are_many, is_put, least, passing_line, put_lines, puts_by, sooner}
@@ -122,28 +122,31 @@ least_reached n (x ∷ xs) few = ⊎_elim
     (λ le. ⊎_elim (λ same. equal same) (λ more. greater (least_reached n xs) more) (eq-or-lt_of_le le))
     (cases_lt x n)
   where
-  counts : cond (nat_lt x n) 1 0 + below n xs < cond (nat_le x n) 1 0 + up_to n xs
-  counts = subst (λ (k : ℕ). k < cond (nat_le x n) 1 0 + up_to n xs) (below_more x n xs) (subst (λ (k : ℕ). below n (x ∷ xs) < k) (one_more x n xs) few)
-  lesser : (below n xs < up_to n xs → least (filter (nat_le n) xs) ≡ Some n) → x < n → least (filter (nat_le n) (x ∷ xs)) ≡ Some n
-  lesser later less =
-      let a = lt-ltb x n less in
-      let b = le-leb x n (omega (arith, less)) in
-      let c = lt-leb n x less in
-      let both = subst (λ (z : Bool × Bool). cond z.0 1 0 + below n xs < cond z.1 1 0 + up_to n xs) (λ i. (a i, b i)) counts in
-      ap (λ (z : Bool). least (cond z (x ∷ filter (nat_le n) xs) (filter (nat_le n) xs))) c ∙ later (omega (arith, both))
-  equal : n ≡ x → least (filter (nat_le n) (x ∷ xs)) ≡ Some n
-  equal same =
-      ap (λ (z : Bool). least (cond z (x ∷ filter (nat_le n) xs) (filter (nat_le n) xs))) (le-leb n x (omega (arith, same)))
-      ∙ ap (λ (k : ℕ). sooner (Some k) (least (filter (nat_le n) xs))) (sym same)
-      ∙ sooner_above n (least (filter (nat_le n) xs)) (least_above n xs)
-  greater : (below n xs < up_to n xs → least (filter (nat_le n) xs) ≡ Some n) → n < x → least (filter (nat_le n) (x ∷ xs)) ≡ Some n
-  greater later more =
-      let a = le-ltb x n (omega (arith, more)) in
-      let b = lt-leb x n more in
-      let both = subst (λ (z : Bool × Bool). cond z.0 1 0 + below n xs < cond z.1 1 0 + up_to n xs) (λ i. (a i, b i)) counts in
-      ap (λ (z : Bool). least (cond z (x ∷ filter (nat_le n) xs) (filter (nat_le n) xs))) (le-leb n x (omega (arith, more)))
-      ∙ ap (sooner (Some x)) (later (omega (arith, both)))
-      ∙ ap (λ (k : ℕ). Some k) (omega (arith, more))
+    counts : cond (nat_lt x n) 1 0 + below n xs < cond (nat_le x n) 1 0 + up_to n xs
+    counts = subst (λ (k : ℕ). k < cond (nat_le x n) 1 0 + up_to n xs) (below_more x n xs) (subst (λ (k : ℕ). below n (x ∷ xs) < k) (one_more x n xs) few)
+
+    lesser : (below n xs < up_to n xs → least (filter (nat_le n) xs) ≡ Some n) → x < n → least (filter (nat_le n) (x ∷ xs)) ≡ Some n
+    lesser later less =
+        let a = lt-ltb x n less in
+        let b = le-leb x n (omega (arith, less)) in
+        let c = lt-leb n x less in
+        let both = subst (λ (z : Bool × Bool). cond z.0 1 0 + below n xs < cond z.1 1 0 + up_to n xs) (λ i. (a i, b i)) counts in
+        ap (λ (z : Bool). least (cond z (x ∷ filter (nat_le n) xs) (filter (nat_le n) xs))) c ∙ later (omega (arith, both))
+
+    equal : n ≡ x → least (filter (nat_le n) (x ∷ xs)) ≡ Some n
+    equal same =
+        ap (λ (z : Bool). least (cond z (x ∷ filter (nat_le n) xs) (filter (nat_le n) xs))) (le-leb n x (omega (arith, same)))
+        ∙ ap (λ (k : ℕ). sooner (Some k) (least (filter (nat_le n) xs))) (sym same)
+        ∙ sooner_above n (least (filter (nat_le n) xs)) (least_above n xs)
+
+    greater : (below n xs < up_to n xs → least (filter (nat_le n) xs) ≡ Some n) → n < x → least (filter (nat_le n) (x ∷ xs)) ≡ Some n
+    greater later more =
+        let a = le-ltb x n (omega (arith, more)) in
+        let b = lt-leb x n more in
+        let both = subst (λ (z : Bool × Bool). cond z.0 1 0 + below n xs < cond z.1 1 0 + up_to n xs) (λ i. (a i, b i)) counts in
+        ap (λ (z : Bool). least (cond z (x ∷ filter (nat_le n) xs) (filter (nat_le n) xs))) (le-leb n x (omega (arith, more)))
+        ∙ ap (sooner (Some x)) (later (omega (arith, both)))
+        ∙ ap (λ (k : ℕ). Some k) (omega (arith, more))
 
 below_none : (ns : List ℕ) → below 0 ns ≡ 0
 below_none [] = refl
@@ -159,6 +162,7 @@ below_before k (x ∷ xs) = below_more x (suc k) xs ∙ (λ i. cond (same i) 1 0
   by_test : (b : Bool) → nat_le x k ≡ b → nat_lt x (suc k) ≡ b
   by_test true e = lt-ltb x (suc k) (omega (arith, le_of x k e))
   by_test false e = le-ltb x (suc k) (omega (arith, not_le_of x k e))
+
   same : nat_lt x (suc k) ≡ nat_le x k
   same = by_test (nat_le x k) refl
 

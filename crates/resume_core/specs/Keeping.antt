@@ -2,7 +2,6 @@
 use Rattle.std.specs.Prelude.{ℕ, Bool, false, if◌then◌else◌, Option, Some, None, List, [], ◌∷◌}
 use Rattle.std.specs.List.{list_any}
 use Rattle.std.specs.Str.{bytes_eq}
-use Rattle.message_core.specs.Spelling.{Content}
 use Rattle.defs_read.specs.Slips.{key_of}
 use Rattle.defs_read.specs.declared.defs.QueueKind.{QueueKind}
 use Rattle.defs_read.specs.declared.defs.QueueKind.TheVariants.{Standard, Priority, Sorted, LastValue}

@@ -1,5 +1,5 @@
 -- the statements of the laws, each proved as the contract of a function in src/laws.rt
-use Rattle.std.specs.Prelude.{◌≡◌, ℕ, ◌+◌, ◌≤◌, ◌==◌, Bool, None, Some, List, [], ◌∷◌, length, slice_get, Vec}
+use Rattle.std.specs.Prelude.{◌≡◌, ℕ, ◌+◌, ◌≤◌, ◌==◌, None, Some, List, [], ◌∷◌, length, slice_get, Vec}
 use Rattle.std.specs.declared.alloc.Global.{Global}
 use Rattle.std.specs.List.{AllByRecursion, count_by}
 use Rattle.queue_model.specs.Table.{FitsQueue, most_entries}

@@ -1,5 +1,5 @@
 -- the entries with which the queues of a first phase open
-use Rattle.std.specs.Prelude.{◌≡◌, ℕ, Bool, false, None, Some, List, [], ◌∷◌, length, slice_get, Vec}
+use Rattle.std.specs.Prelude.{◌≡◌, ℕ, false, None, Some, List, [], ◌∷◌, length, slice_get, Vec}
 use Rattle.std.specs.declared.alloc.Global.{Global}
 use Rattle.queue_model.specs.declared.rows.RowState.TheVariants.{Available}
 use Rattle.queue_model.specs.Table.{FitsQueue}

@@ -48,7 +48,7 @@ HasTexts Standard ks texts = Unit {0}
 HasTexts (Priority n) ks texts = Unit {0}
 HasTexts (Sorted name) ks texts = Unit {0}
 HasTexts (LastValue name) ks texts =
-    (text : List ℕ) → has_text texts text ≡ has_key (LastValue name) (Some text) ks
+    (text : Vec ℕ Global) → has_text texts text.items ≡ has_key (LastValue name) (Some text.items) ks
 
 -- Of these entries of a queue, which were met from the last to the first, those that stay and those that give way were
 -- filed, the last one first.

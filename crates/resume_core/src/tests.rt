@@ -21,10 +21,15 @@ const DEFS: &str = r#"{"queues":[{"name":"q"},{"name":"r","type":"priority"},
     {"name":"s","type":"sorted","sortKey":"k"},{"name":"l","type":"lvq","lvqKey":"k"}]}"#;
 
 const REST: &str = "{\"do\":\"rest\"}\n";
+
 const Q_1: &str = "{\"do\":\"put\",\"actor\":\"a\",\"queue\":\"q\",\"id\":1}\n";
+
 const Q_2: &str = "{\"do\":\"put\",\"actor\":\"a\",\"queue\":\"q\",\"id\":2}\n";
+
 const Q_3: &str = "{\"do\":\"put\",\"actor\":\"b\",\"queue\":\"q\",\"id\":3}\n";
+
 const R_1: &str = "{\"do\":\"put\",\"actor\":\"b\",\"queue\":\"r\",\"id\":1}\n";
+
 const ACK_1: &str = "{\"do\":\"ack\",\"actor\":\"a\",\"queue\":\"q\",\"id\":1}\n";
 
 /// The queues and ids of live entries, the lines of a script, of which the first is line 2, and the first line that doesn't
@@ -40,11 +45,7 @@ const CASES: &[(&[(&str, u64)], &[&str], Option<(u64, LiveCause)>)] = &[
         Some((1, LiveCause::JournalQueue)),
     ),
     // One queue and one id, twice: next to each other, and apart.
-    (
-        &[("q", 1), ("q", 1)],
-        &[],
-        Some((1, LiveCause::DoubleLive)),
-    ),
+    (&[("q", 1), ("q", 1)], &[], Some((1, LiveCause::DoubleLive))),
     (
         &[("r", 7), ("q", 1), ("l", 2), ("r", 7)],
         &[Q_1],
@@ -126,25 +127,6 @@ fn many(rt: &impl Abort, alloc: Global, count: u64) -> Vec<Kept> {
     live
 }
 
-#[test]
-fn first_causes(rt: HostRuntime) {
-    let alloc = rt.alloc();
-    let defs = definitions(&rt, alloc);
-    for (entries, lines, cause) in CASES {
-        let mut live = Vec::new(alloc);
-        for (queue, id) in *entries {
-            live.push(entry(&rt, alloc, queue, *id))
-                .ok()
-                .expect(&rt, "memory");
-        }
-        let script = script(&rt, alloc, &defs, lines);
-        let found = check_live(alloc, &defs, &live, &script)
-            .ok()
-            .expect(&rt, "memory");
-        assert_eq!(rt; found.map(|fault| (fault.line, fault.cause)), *cause);
-    }
-}
-
 /// The first line of these that doesn't go with the live entries, with its cause.
 fn fault(
     rt: &impl Abort,
@@ -211,10 +193,13 @@ fn valued(rt: &impl Abort, alloc: Global, id: u64, value: &str) -> Message {
     let text = match value.is_empty() {
         true => format!(in alloc; r#"{{"id":{id},"persistent":true,"priority":{id},"body":"hi"}}"#),
         false => format!(in alloc;
-            r#"{{"id":{id},"persistent":true,"priority":{id},"body":"hi","headers":{{"k":"{value}"}}}}"#),
+            r#"{{"id":{id},"persistent":true,"priority":{id},"body":"hi","headers":{{"k":"{value}"}}}}"#
+        ),
     };
     let text = text.ok().expect(rt, "memory");
-    read_message(alloc, text.as_bytes()).ok().expect(rt, "a message")
+    read_message(alloc, text.as_bytes())
+        .ok()
+        .expect(rt, "a message")
 }
 
 fn ids(rt: &impl Abort, alloc: Global, entries: &[RestEntry<Parcel>]) -> Vec<u64> {
@@ -258,7 +243,10 @@ fn entries_that_stay(rt: HostRuntime) {
     let Resumed { left, outdated } = open_live(alloc, &defs, live).ok().expect(&rt, "memory");
     assert_eq!(rt; (left.len(), outdated.len()), (4, 4));
     for (entries, gone) in left.iter().zip(outdated.iter()).take(3) {
-        assert_eq!(rt; ids(&rt, alloc, entries).as_slice(), [1, 2, 3, 4, 5, 6].as_slice());
+        assert_eq!(rt;
+            ids(&rt, alloc, entries).as_slice(),
+            [1, 2, 3, 4, 5, 6].as_slice()
+        );
         assert!(rt; gone.is_empty());
     }
     let last = left.get(3).expect(&rt, "a queue");

@@ -1,9 +1,11 @@
 //! The keys of a last-value queue that were met.
-ghost use Rattle.std.specs.Prelude.{◌≡◌, ◌∷◌, ◌||◌, List, ℕ, IfOk, OnOk};
+ghost use Rattle.std.specs.Prelude.{◌≡◌, ◌∷◌, ◌||◌, List, ℕ, Some, Vec, IfOk, OnOk};
+ghost use Rattle.std.specs.declared.alloc.Global.{Global};
 ghost use Rattle.std.specs.Str.{bytes_eq};
 ghost use Rattle.defs_read.specs.Slips.{key_of};
+ghost use Rattle.defs_read.specs.declared.defs.QueueKind.TheVariants.{LastValue};
 ghost use Rattle.recover_core.specs.declared.kept.Kept.{Kept};
-ghost use Rattle.resume_core.specs.Keeping.{gives_way};
+ghost use Rattle.resume_core.specs.Keeping.{gives_way, has_key};
 ghost use Rattle.resume_core.specs.Steps.{HasTexts, has_text};
 
 use byte_lists::{Bytes, NoMemory};
@@ -13,9 +15,11 @@ use std::collections::BTreeSet;
 
 /// Adds a copy of the text, and tells whether it was there.
 fn add_text(alloc: Global, text: &Bytes, texts: &mut BTreeSet<Vec<u8>>) -> Result<bool, NoMemory>
-    ensures met { IfOk result (λ met. met ≡ has_text texts.old text.now) }
-    ensures added { OnOk result ((other : List ℕ)
-        → has_text texts.new other ≡ (bytes_eq other text.now || has_text texts.old other)) }
+    ensures met { (name : List ℕ) (ks : List Kept) → HasTexts (LastValue name) ks texts.old
+        → IfOk result (λ met. met ≡ has_key (LastValue name) (Some text.now) ks) }
+    ensures added { OnOk result ((other : Vec ℕ Global)
+        → has_text texts.new other.items
+        ≡ (bytes_eq other.items text.now || has_text texts.old other.items)) }
 {
     let copy = Bytes::of(alloc, text.as_slice())?;
     match texts.insert(copy.into_vec()) {

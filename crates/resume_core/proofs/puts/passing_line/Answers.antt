@@ -1,4 +1,4 @@
-use Rattle.std.proofs.Common.{◌≡◌, ◌+◌, ◌-◌, ◌<◌, ◌≤◌, arith, ap, get_or, length, Some, subst, sym, ◌∙◌, List, ℕ}
+use Rattle.std.proofs.Common.{◌+◌, ◌-◌, ◌<◌, ◌≤◌, arith, ap, length, Some, subst, sym, ◌∙◌, List, ℕ}
 use Rattle.std.proofs.lemmas.Grind.{get_or_default_zero}
 use Rattle.std.specs.List.Sorted.{IsPermutation}
 use Rattle.queue_model.specs.Table.{most_entries}
