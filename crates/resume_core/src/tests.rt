@@ -202,15 +202,26 @@ fn valued(rt: &impl Abort, alloc: Global, id: u64, value: &str) -> Message {
         .expect(rt, "a message")
 }
 
-fn ids(rt: &impl Abort, alloc: Global, entries: &[RestEntry<Parcel>]) -> Vec<u64> {
+/// The ids of the entries of a queue, each of which is as a recovered entry is.
+fn ids(rt: &impl Abort, alloc: Global, left: &[Vec<RestEntry<Parcel>>], queue: usize) -> Vec<u64> {
     let mut ids = Vec::new(alloc);
-    for entry in entries {
+    for entry in left.get(queue).expect(rt, "a queue") {
         assert!(rt; entry.state == RowState::Available && !entry.outdated);
         assert_eq!(rt; entry.slip.id, entry.cargo.message().id());
         assert_eq!(rt; entry.slip.size, entry.cargo.size());
-        assert_eq!(rt; entry.cargo.body(), b"hi".as_slice());
-        assert_eq!(rt; (entry.cargo.delivered(), entry.cargo.receipt()), (0, None));
+        assert!(rt; entry.cargo.is_here());
+        assert_eq!(rt; entry.cargo.delivered(), 0);
+        assert_eq!(rt; entry.cargo.receipt(), None);
         ids.push(entry.slip.id).ok().expect(rt, "memory");
+    }
+    ids
+}
+
+/// The ids of the entries of a queue that give way.
+fn gone(rt: &impl Abort, alloc: Global, outdated: &[Vec<Kept>], queue: usize) -> Vec<u64> {
+    let mut ids = Vec::new(alloc);
+    for entry in outdated.get(queue).expect(rt, "a queue") {
+        ids.push(entry.message.id()).ok().expect(rt, "memory");
     }
     ids
 }
@@ -233,36 +244,45 @@ fn valued_entries(rt: &impl Abort, alloc: Global) -> Items<Kept> {
     Items::from_vec(live)
 }
 
-/// On a last-value queue the last entry of each key stays, and each without a key; on the others all stay, in the order of
-/// the journal.
+/// The ids of the entries that stay in each queue, and of those that give way: on a last-value queue the last entry of each
+/// key stays, and each without a key.
+const STAYING: &[(&[u64], &[u64])] = &[
+    (&[1, 2, 3, 4, 5, 6], &[]),
+    (&[1, 2, 3, 4, 5, 6], &[]),
+    (&[1, 2, 3, 4, 5, 6], &[]),
+    (&[2, 3, 5, 6], &[1, 4]),
+];
+
 #[test]
 fn entries_that_stay(rt: HostRuntime) {
     let alloc = rt.alloc();
     let defs = definitions(&rt, alloc);
     let live = valued_entries(&rt, alloc);
-    let Resumed { left, outdated } = open_live(alloc, &defs, live).ok().expect(&rt, "memory");
-    assert_eq!(rt; (left.len(), outdated.len()), (4, 4));
-    for (entries, gone) in left.iter().zip(outdated.iter()).take(3) {
-        assert_eq!(rt;
-            ids(&rt, alloc, entries).as_slice(),
-            [1, 2, 3, 4, 5, 6].as_slice()
-        );
-        assert!(rt; gone.is_empty());
+    let resumed = open_live(alloc, &defs, live).ok().expect(&rt, "memory");
+    for (queue, (stay, way)) in STAYING.iter().enumerate() {
+        assert_eq!(rt; ids(&rt, alloc, &resumed.left, queue).as_slice(), *stay);
+        assert_eq!(rt; gone(&rt, alloc, &resumed.outdated, queue).as_slice(), *way);
     }
-    let last = left.get(3).expect(&rt, "a queue");
-    assert_eq!(rt; ids(&rt, alloc, last).as_slice(), [2, 3, 5, 6].as_slice());
-    let gone = outdated.get(3).expect(&rt, "a queue");
-    assert_eq!(rt; gone.len(), 2);
-    for (entry, id) in gone.iter().zip([1, 4]) {
-        assert_eq!(rt; entry.message.id(), id);
-    }
-    let ranked = left.get(1).expect(&rt, "a queue");
-    let first = ranked.first().expect(&rt, "an entry");
-    assert_eq!(rt; first.slip.list, 1);
-    let sorted = left.get(2).expect(&rt, "a queue");
+}
+
+/// A queue's slips are by its own definition: the priority 1 is in the lowest but one of ten lists, and the sorted queue goes
+/// by the header.
+#[test]
+fn slips_of_the_queue(rt: HostRuntime) {
+    let alloc = rt.alloc();
+    let defs = definitions(&rt, alloc);
+    let live = valued_entries(&rt, alloc);
+    let resumed = open_live(alloc, &defs, live).ok().expect(&rt, "memory");
+    let ranked = resumed.left.get(1).expect(&rt, "a queue");
+    assert_eq!(rt; ranked.first().expect(&rt, "an entry").slip.list, 1);
+    let sorted = resumed.left.get(2).expect(&rt, "a queue");
     let first = sorted.first().expect(&rt, "an entry");
-    let key = first.slip.key.as_ref().map(|key| key.as_slice());
-    assert_eq!(rt; key, Some(b"x".as_slice()));
+    assert_eq!(rt;
+        first.slip.key.as_ref().map(|key| key.as_slice()),
+        Some(b"x".as_slice())
+    );
+    assert!(rt; first.cargo.is_here());
+    assert_eq!(rt; first.cargo.body(), b"hi".as_slice());
 }
 
 /// Makes the calls that may want memory, with ample memory.
