@@ -1,0 +1,4 @@
+pub mod Sizes
+pub mod Staged
+pub mod Rooms
+pub mod Bodies
