@@ -1,4 +1,5 @@
-pub mod Sizes
+pub mod ItemSizes
+pub mod Names
 pub mod Staged
 pub mod Rooms
 pub mod Bodies

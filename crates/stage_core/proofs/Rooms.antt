@@ -1,15 +1,11 @@
 -- room for what lines may add
-use Rattle.std.proofs.Common.{◌≡◌, ℕ, ◌+◌, ◌≤◌, min, List, [], ◌∷◌, ◌++◌, length, refl, sym, ap, ◌∙◌, subst, arith}
-use Rattle.std.specs.List.{sum_by}
+use Rattle.std.proofs.Common.{◌≡◌, ℕ, ◌+◌, List, ◌∷◌, ap, ◌∙◌, arith}
 use Rattle.std.proofs.lemmas.List.Sums.{sum_by-cons}
-use Rattle.journal_format.specs.declared.items.Item.{Item}
-use Rattle.journal_format.specs.Filled.{Filled, HasPlace}
-use Rattle.journal_format.specs.Spelling.{Txn, item_bytes, txn_bytes}
 use Rattle.script_read.specs.declared.lines.Op.{Op}
 use Rattle.stage_core.specs.Laws.{RoomBegins, RoomComesBack, RoomForNext, RoomGoesOn}
-use Rattle.stage_core.specs.Room.{KeepsRoom, line_bytes, lines_bytes, room_for}
-use Rattle.stage_core.specs.Staging.{Adds, HasRoomFor, bytes_of}
-use Rattle.stage_core.proofs.Sizes.{bytes_append, txn_long}
+use Rattle.stage_core.specs.Room.{line_bytes, lines_bytes}
+use Rattle.stage_core.specs.Staging.{bytes_of}
+use Rattle.stage_core.proofs.ItemSizes.{bytes_append, txn_long}
 
 pub lines_more : (names : List (List ℕ)) (op : Op) (ops : List Op) → lines_bytes names (op ∷ ops) ≡ line_bytes names op.what + lines_bytes names ops
 lines_more names op ops = sum_by-cons (λ (x : Op). line_bytes names x.what) op ops

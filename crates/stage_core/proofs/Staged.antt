@@ -1,11 +1,8 @@
 -- lines that are staged
-use Rattle.std.proofs.Common.{◌≡◌, ℕ, ◌+◌, ◌-◌, ◌≤◌, Bool, true, false, cond, List, [], ◌∷◌, ◌++◌, append-nil, append_assoc, length, refl, sym, ap, ◌∙◌, subst, arith}
-use Rattle.message_core.specs.Spelling.{Content}
-use Rattle.journal_format.specs.declared.items.Item.{Item}
-use Rattle.journal_format.specs.declared.items.Item.TheVariants.{Entered, Gone}
-use Rattle.journal_format.specs.Spelling.{Txn, item_bytes, txn_bytes}
+use Rattle.std.proofs.Common.{◌≡◌, ℕ, List, [], ◌∷◌, ◌++◌, append-nil, append_assoc, refl, sym, ap, ◌∙◌, subst}
+use Rattle.journal_format.specs.Spelling.{Txn}
 use Rattle.txn_core.specs.declared.staging.Staged.{Staged}
-use Rattle.stage_core.specs.Items.{AreWithin, IsWithin, Stages, body_place, items_of, place_within, put_items, txn_of}
+use Rattle.stage_core.specs.Items.{AreWithin, IsWithin, Stages, items_of, txn_of}
 use Rattle.stage_core.specs.Laws.{StagesAppend}
 
 pub txn_append : StagesAppend

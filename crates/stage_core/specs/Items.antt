@@ -2,7 +2,6 @@
 use Rattle.std.specs.Prelude.{◌≡◌, ℕ, ◌-◌, if◌then◌else◌, List, [], ◌∷◌, ◌++◌, length, map, slice_get, unwrap_or}
 use Rattle.message_core.specs.Spelling.{Content}
 use Rattle.defs_read.specs.Defined.{Defined}
-use Rattle.journal_format.specs.declared.items.Item.{Item}
 use Rattle.journal_format.specs.declared.items.Item.TheVariants.{Entered, Gone}
 use Rattle.journal_format.specs.Spelling.{Txn, txn_bytes}
 use Rattle.txn_core.specs.declared.staging.Staged.{Staged}

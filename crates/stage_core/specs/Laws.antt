@@ -1,14 +1,13 @@
 -- the statements of the laws, each proved as the contract of a function in src/laws.rt
-use Rattle.std.specs.Prelude.{◌≡◌, ◌≢◌, ℕ, ◌+◌, ◌≤◌, true, List, [], ◌∷◌, ◌++◌, drop, length, take}
+use Rattle.std.specs.Prelude.{◌≡◌, ℕ, ◌+◌, ◌≤◌, List, [], ◌∷◌, ◌++◌, drop, length, take}
 use Rattle.message_core.specs.Spelling.{Content}
 use Rattle.journal_format.specs.declared.items.Item.{Item}
-use Rattle.journal_format.specs.declared.items.Item.TheVariants.{Entered, Gone}
+use Rattle.journal_format.specs.declared.items.Item.TheVariants.{Entered}
 use Rattle.journal_format.specs.Filled.{Filled}
 use Rattle.journal_format.specs.Spelling.{Txn, item_bytes, txn_bytes}
 use Rattle.script_read.specs.declared.lines.Op.{Op}
-use Rattle.script_read.specs.declared.lines.What.TheVariants as what
 use Rattle.txn_core.specs.declared.staging.Staged.{Staged}
-use Rattle.stage_core.specs.Items.{Stages, body_place, items_of, txn_of}
+use Rattle.stage_core.specs.Items.{body_place, txn_of}
 use Rattle.stage_core.specs.Room.{KeepsRoom, line_bytes, room_for}
 use Rattle.stage_core.specs.Staging.{Adds, HasRoomFor, bytes_of}
 

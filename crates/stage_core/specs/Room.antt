@@ -1,12 +1,11 @@
 -- how many bytes the transactions of an actor's lines may take
-use Rattle.std.specs.Prelude.{◌≡◌, ℕ, ◌+◌, ◌≤◌, min, if◌then◌else◌, List, [], ◌∷◌, length}
+use Rattle.std.specs.Prelude.{ℕ, ◌+◌, ◌≤◌, min, if◌then◌else◌, List, length}
 use Rattle.std.specs.List.{sum_by}
 use Rattle.message_core.specs.Spelling.{Content}
 use Rattle.journal_format.specs.declared.items.Item.TheVariants.{Entered, Gone}
 use Rattle.journal_format.specs.declared.limits.TheConstants.{MOST_TXN_BYTES}
 use Rattle.journal_format.specs.Filled.{Filled}
 use Rattle.journal_format.specs.Spelling.{item_bytes}
-use Rattle.defs_read.specs.Defined.{Defined}
 use Rattle.script_read.specs.declared.lines.Op.{Op}
 use Rattle.script_read.specs.declared.lines.What.{What}
 use Rattle.script_read.specs.declared.lines.What.TheVariants.{Put, Take, Close, Ack, Release, Lock, Unlock, Steal, Begin, Commit, Rollback}

@@ -1,5 +1,5 @@
 -- what staging a line leaves
-use Rattle.std.specs.Prelude.{◌≡◌, ℕ, ◌+◌, ◌≤◌, ◌<◌, true, List, [], ◌∷◌, ◌++◌, length}
+use Rattle.std.specs.Prelude.{◌≡◌, ℕ, ◌+◌, ◌≤◌, [], ◌∷◌, ◌++◌, length}
 use Rattle.std.specs.List.{flat_map}
 use Rattle.journal_format.specs.declared.items.Item.{Item}
 use Rattle.journal_format.specs.Filled.{Filled, HasPlace}

@@ -2,14 +2,14 @@
 #![tactic(auto)]
 
 mod alone;
-mod entering;
 pub mod laws;
+mod parcels;
 mod room;
 mod sizes;
 mod staging;
 
 pub use alone::{enter_alone, go_alone};
-pub use entering::entering;
+pub use parcels::entering;
 pub use room::room_for;
 pub use staging::{stage_ack, stage_put};
 
