@@ -5,7 +5,7 @@ use Rattle.message_core.specs.Spelling.{Content}
 use Rattle.journal_format.specs.declared.items.Item.TheVariants.{Entered, Gone}
 use Rattle.journal_format.specs.declared.limits.TheConstants.{MOST_TXN_BYTES}
 use Rattle.journal_format.specs.Filled.{Filled}
-use Rattle.journal_format.specs.Spelling.{item_bytes}
+use Rattle.journal_format.specs.Spelling.{Txn, item_bytes}
 use Rattle.script_read.specs.declared.lines.Op.{Op}
 use Rattle.script_read.specs.declared.lines.What.{What}
 use Rattle.script_read.specs.declared.lines.What.TheVariants.{Put, Take, Close, Ack, Release, Lock, Unlock, Steal, Begin, Commit, Rollback}
@@ -49,3 +49,11 @@ room_for names ops = min (lines_bytes names ops) most_bytes
 -- the transaction has room for what these lines may add, or for all that a transaction may have
 abbrev pub KeepsRoom : List (List ℕ) → Filled → List Op → Type 0
 KeepsRoom names txn ops = min (bytes_of txn.items + lines_bytes names ops) most_bytes ≤ bytes_of txn.items + txn.room
+
+-- the greatest number of bytes of a transaction for whose items so many are taken
+abbrev pub each_for : ℕ → ℕ
+each_for room = min (room + 4) most_bytes
+
+-- what the transaction has, and what these lines may add, is no more than all lines may add
+abbrev pub Spends : List (List ℕ) → List Op → Txn → List Op → Type 0
+Spends names all items ops = bytes_of items + lines_bytes names ops ≤ lines_bytes names all

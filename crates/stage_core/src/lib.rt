@@ -4,13 +4,13 @@
 mod alone;
 pub mod laws;
 mod parcels;
-mod room;
+pub mod room;
 mod sizes;
 mod staging;
 
 pub use alone::{enter_alone, go_alone};
 pub use parcels::entering;
-pub use room::room_for;
+pub use room::{GONE_ROOM, each_for, room_for};
 pub use staging::{stage_ack, stage_put};
 
 #[cfg(test)]

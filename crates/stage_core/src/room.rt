@@ -2,13 +2,19 @@
 ghost use Rattle.std.specs.Prelude.{◌≡◌, ◌<◌, ◌^◌, ℕ, List, length};
 ghost use Rattle.defs_read.specs.Defined.{queues_in};
 ghost use Rattle.stage_core.specs.Items.{name_at, names_in};
-ghost use Rattle.stage_core.specs.Room.{line_bytes, put_bytes, room_for};
+ghost use Rattle.stage_core.specs.Room.{each_for, line_bytes, put_bytes, room_for};
 
 use crate::sizes::{entered_size, gone_size};
 use defs_read::Defs;
 use journal_format::limits::MOST_TXN_BYTES;
 use message_core::Message;
 use script_read::{Op, What};
+
+/// The room for the greatest item that says that an entry is gone: ten bytes, and a name of 64.
+pub const GONE_ROOM: u64 = 74;
+
+/// How many bytes of a transaction are no item's.
+const COUNT_BYTES: u64 = 4;
 
 /// How many bytes the name of the queue of this number has.
 fn name_len(defs: &Defs, queue: u32) -> u64
@@ -63,4 +69,11 @@ pub fn room_for(defs: &Defs, ops: &[Op]) -> u64
             .min(MOST_TXN_BYTES);
     }
     room
+}
+
+/// How many bytes a transaction may have for whose items so many are taken: the number of its items comes to them.
+pub fn each_for(room: u64) -> u64
+    ensures { result ≡ each_for room }
+{
+    room.saturating_add(COUNT_BYTES).min(MOST_TXN_BYTES)
 }
