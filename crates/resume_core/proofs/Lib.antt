@@ -6,3 +6,4 @@ pub mod Doubling
 pub mod Deals
 pub mod Filing
 pub mod Lawful
+pub mod Lives

@@ -6,3 +6,4 @@ pub mod Keeping
 pub mod Resumed
 pub mod Steps
 pub mod Laws
+pub mod Living

@@ -1,6 +1,7 @@
 //! Laws on live entries and what queues open with. No program needs to call them: each has its law as its contract.
 ghost use Rattle.resume_core.specs.Laws.{EntriesStand, FewEntries, IdsOnce, KeysOnce, NoneIsLost, RecoveredLoad};
 ghost use Rattle.resume_core.specs.Laws.{ResumesWithoutCause};
+ghost use Rattle.resume_core.specs.Living.{LiveGoesOn};
 
 /// Where there is no cause, and a script puts no id twice to a queue, it may go on from the live entries.
 pub fn resumes_without_cause()
@@ -35,4 +36,9 @@ pub fn none_is_lost()
 /// What a recovered entry is as a cargo.
 pub fn recovered_load()
     ensures { RecoveredLoad }
+{}
+
+/// Behind more transactions those entries are live that were and that these don't tell gone, and then those that these leave.
+pub fn live_goes_on()
+    ensures { LiveGoesOn }
 {}
