@@ -5,7 +5,7 @@ use Rattle.std.specs.Str.{bytes_eq}
 use Rattle.journal_format.specs.declared.items.Item.{Item}
 use Rattle.journal_format.specs.declared.items.Item.TheVariants.{Entered, Gone}
 use Rattle.journal_format.specs.Spelling.{Txn}
-use Rattle.recover_core.specs.Live.{is_gone, items_of, live, live_items}
+use Rattle.recover_core.specs.Live.{is_gone, items_of, live_items}
 use Rattle.resume_core.specs.Living.{LiveGoesOn, stays_behind}
 
 or_assoc : (a b c : Bool) → ((a || b) || c) ≡ (a || (b || c))
