@@ -1,0 +1,5 @@
+pub mod Items
+pub mod Staging
+pub mod Entering
+pub mod Room
+pub mod Laws
