@@ -2,6 +2,8 @@ pub mod Lists
 pub mod Calls
 pub mod Holds
 pub mod AckLines
+pub mod Deletions
+pub mod Dropping
 pub mod LockLines
 pub mod TakeLines
 pub mod PutLines

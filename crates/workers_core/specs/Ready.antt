@@ -32,7 +32,6 @@ pub record Holds (sights : List Sight) (hands : List Hand) : Type 0 where
 -- a slip that a message may have in the queue of a pass
 pub record IsSlipFor (t : Sight) (m : Content) (slip : Slip) : Type 0 where
   pub fits : FitsQueue t.opening.lists t.opening.consumers slip
-  pub key : slip.key ≡ None
   pub id : slip.id ≡ m.id
   pub size : slip.size ≡ length (content m)
 
