@@ -16,5 +16,6 @@ pub mod OnQueue
 pub mod OneJob
 pub mod Onward
 pub mod Served
+pub mod Roomy
 pub mod Preparing
 pub mod Counting

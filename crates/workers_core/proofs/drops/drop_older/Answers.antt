@@ -11,11 +11,11 @@ use Rattle.workers_core.proofs.Holds.{others_same}
 use Rattle.workers_core.proofs.drops.drop_older.Goals as goal
 
 pub drop_entry-requires-clause-hold : goal.drop_entry-requires-clause-hold
-drop_entry-requires-clause-hold g c =
+drop_entry-requires-clause-hold g c κs within =
     subst (λ o. HoldsAlso (g.Q.SharedQueue.sight c.args.pass.now) c.args.number (option_map (λ d. (d.0, load_of d.1)) o) (hands_of c.args.held.now.items)) c.in-Some.is c.requires.hold
 
 pub drop_entry-requires-clause-room : goal.drop_entry-requires-clause-room
-drop_entry-requires-clause-room g c = c.requires.room (ap is_some c.in-Some.is)
+drop_entry-requires-clause-room g c κs within = c.requires.room (ap is_some c.in-Some.is)
 
 pub returns-in-Some-clause-did : goal.returns-in-Some-clause-did
 returns-in-Some-clause-did g c =
