@@ -1,5 +1,5 @@
 -- no row is deleted twice
-use Rattle.std.proofs.Common.{◌≡◌, ◌≤◌, ◌<◌, ◌+◌, ◌-◌, ℕ, Bool, true, false, cond, Option, Some, None, List, [], ◌∷◌, ◌++◌, length, filter, find, refl, sym, ap, ◌∙◌, subst, arith}
+use Rattle.std.proofs.Common.{◌≡◌, ◌≤◌, ◌+◌, ℕ, Bool, true, false, cond, Some, List, [], ◌∷◌, ◌++◌, length, refl, ap, ◌∙◌, arith}
 use Rattle.std.specs.List.{count_by, sum_by}
 use Rattle.std.proofs.lemmas.List.Sums.{sum_by-append, sum_by-cons, sum_by_push}
 use Rattle.queue_model.specs.declared.deeds.Act.{Act}
@@ -17,7 +17,7 @@ use Rattle.acts_core.specs.Asked.{IsSightOf}
 use Rattle.acts_core.specs.Calls.{Call, CallDelete, Answer, IsDone, acts_of}
 use Rattle.acts_core.specs.Chains.{acts_in}
 use Rattle.acts_core.specs.Meaning.{Called}
-use Rattle.acts_core.specs.Sight.{Build, Sight, known, plan_of}
+use Rattle.acts_core.specs.Sight.{Build, Sight, plan_of}
 use Rattle.acts_core.proofs.Chaining.{chain_own}
 use Rattle.line_core.specs.Runs.{RanOn}
 use Rattle.workers_core.specs.Drops.{deleted, is_deletion, left_to}

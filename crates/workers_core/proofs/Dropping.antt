@@ -1,41 +1,34 @@
 -- entries that are dropped
-use Rattle.std.proofs.Common.{◌≡◌, ◌≢◌, ◌≤◌, ◌<◌, ◌+◌, ℕ, Bool, true, false, not, nat_eq, ◌⊎◌, Option, Some, None, List, [], ◌∷◌, ◌++◌, length, filter, refl, sym, ap, ◌∙◌, subst, inl, inr, eq-eqb, ne_eqb, append_assoc, append-nil, arith}
-use Rattle.std.specs.List.{AllByRecursion}
-use Rattle.std.specs.Prelude.{is_some}
-use Rattle.std.specs.Option.{option_map}
-use Rattle.std.proofs.lemmas.Bool.{cases_Bool}
+use Rattle.std.proofs.Common.{◌≡◌, ◌≤◌, ◌+◌, ℕ, Bool, true, false, not, ◌⊎◌, Some, None, List, [], ◌∷◌, ◌++◌, refl, sym, ap, ◌∙◌, subst, inl, inr, eq-eqb, append_assoc, append-nil, arith}
 use Rattle.std.proofs.lemmas.List.{length-append}
 use Rattle.std.proofs.lemmas.List.Elements.{filter-append}
 use Rattle.queue_model.specs.declared.queues.Depth.{Depth}
 use Rattle.queue_model.specs.declared.queues.Limits.{Limits}
 use Rattle.queue_model.specs.declared.rows.RowState.TheVariants.{Locked}
-use Rattle.queue_model.specs.declared.rows.Slip.{Slip}
-use Rattle.queue_model.specs.Keyed.{Apart}
 use Rattle.queue_model.specs.State.{IsIn}
 use Rattle.acts_core.specs.Asked.{IsSightOf}
-use Rattle.acts_core.specs.Calls.{Call, CallDepth, CallOldest, CallPut, CallDequeue, CallDelete, Answer, IsAt, IsDepth, IsGot, IsEmpty, IsFreed, IsDone}
+use Rattle.acts_core.specs.Calls.{Call, CallDepth, CallOldest, CallDequeue, CallDelete, Answer, IsDepth, IsGot, IsEmpty, IsFreed, IsDone}
 use Rattle.acts_core.specs.Hands.{InHand}
 use Rattle.acts_core.specs.Load.{Load}
-use Rattle.acts_core.specs.Meaning.{Besides, Called}
-use Rattle.acts_core.specs.Sight.{Build, Kind, Listed, LastValue, Sorted, Showed, Sight, known, plan_of}
-use Rattle.overflow_core.specs.Calls.{IsWithin, Trimmed, Trims}
-use Rattle.overflow_core.specs.Limits.{is_beyond, is_ring}
-use Rattle.overflow_core.specs.declared.verdicts.Trim.TheVariants.{Fits, Nothing, Over}
+use Rattle.acts_core.specs.Meaning.{Called}
+use Rattle.acts_core.specs.Sight.{Build, Sight, known}
+use Rattle.overflow_core.specs.Calls.{IsWithin, Trims}
+use Rattle.overflow_core.specs.Limits.{is_ring}
 use Rattle.report_core.specs.declared.answers.Dropped.{Dropped}
 use Rattle.line_core.specs.Fits as fit
 use Rattle.line_core.specs.Fits.{Did, DropsNoMore, DropsOldest, DropsOlder, On, TrimsRing, drop, dropped, let_go}
-use Rattle.line_core.specs.Hands.{Hand, gained, hand, is_this, lost, same_hand, without}
+use Rattle.line_core.specs.Hands.{Hand, gained, hand, is_this, lost, without}
 use Rattle.line_core.specs.Runs.{RanOn, calls_on}
 use Rattle.line_core.proofs.LineLists.{calls_append}
 use Rattle.line_core.proofs.Running.{ran_append, ran_call, ran_none}
-use Rattle.workers_core.specs.Drops.{displaced_by, left_to}
-use Rattle.workers_core.specs.Hold.{Hold, HoldsAlso, Keeps, KeepsOthers, Mine, MineOn}
+use Rattle.workers_core.specs.Drops.{left_to}
+use Rattle.workers_core.specs.Hold.{Hold, HoldsAlso, KeepsOthers, Mine, MineOn}
 use Rattle.workers_core.specs.Lines.{Drops}
 use Rattle.workers_core.proofs.AckLines.{ack_keeps}
 use Rattle.workers_core.proofs.Calls.{gains_mine, keeps_call, keeps_none}
 use Rattle.workers_core.proofs.Deletions.{left_call, left_delete}
 use Rattle.workers_core.proofs.Holds.{hold_gained, hold_lost, hold_same}
-use Rattle.workers_core.proofs.Lists.{filter_here, filter_past, same_self}
+use Rattle.workers_core.proofs.Lists.{filter_past, same_self}
 use Rattle.workers_core.proofs.Onward.{all_last}
 
 -- Hands
@@ -159,9 +152,11 @@ trims_left build a b limits answer t = omega (arith, left_call build a t.between
 pub over_hold : (build : Build) (a b : Sight) (limits : Limits) (q r l : ℕ) (load : Load) (hands : List Hand) → Trims build a b limits (IsGot r l load) → Hold a q hands → HoldsAlso b q (Some (r, load)) hands
 over_hold build a b limits q r l load hands t hold =
     let k : Hand = hand q r load.id (Some load) in
-    let looked : Hold t.between q hands = hold_same a t.between q hands (λ e. keeps_call build a t.between CallDepth (IsDepth t.shown) t.looked e tt) hold in
-    (hold_gained build t.between b CallOldest (IsGot r l load) q k hands t.asked looked refl
-    (gains_mine build t.between b CallOldest (IsGot r l load) t.asked q r load load.count refl (omega arith)) (keeps_call build t.between b CallOldest (IsGot r l load) t.asked r refl), hold.apart)
+    let looked : Hold t.between q hands = hold_same a t.between q hands (λ e. keeps_call build a t.between CallDepth (IsDepth t.shown) t.looked e tt) hold in (
+      hold_gained build t.between b CallOldest (IsGot r l load) q k hands t.asked looked refl
+          (gains_mine build t.between b CallOldest (IsGot r l load) t.asked q r load load.count refl (omega arith)) (keeps_call build t.between b CallOldest (IsGot r l load) t.asked r refl),
+      hold.apart,
+    )
 
 -- no entry was to be had
 pub nothing_hold : (build : Build) (a b : Sight) (limits : Limits) (q : ℕ) (hands : List Hand) → Trims build a b limits IsEmpty → Hold a q hands → Hold b q hands

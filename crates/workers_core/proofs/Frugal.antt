@@ -133,8 +133,8 @@ frugal_trims limits q [] dids (depth, inr (beyond, did)) = subst IsFrugal (sym d
 frugal_trims limits q (x ∷ own) dids trims =
     let one : DropsOldest limits q x trims.0 = trims.2 in
     let first : IsFrugal trims.0 = subst IsFrugal (sym one.did)
-        (frugal_on q CallDepth (IsDepth one.depth) (On q CallOldest (IsGot one.row one.list one.load) ∷ drop q one.row one.size) refl refl
-        (frugal_on q CallOldest (IsGot one.row one.list one.load) (drop q one.row one.size) refl refl (frugal_drop q one.row one.size)))
+    (frugal_on q CallDepth (IsDepth one.depth) (On q CallOldest (IsGot one.row one.list one.load) ∷ drop q one.row one.size) refl refl
+    (frugal_on q CallOldest (IsGot one.row one.list one.load) (drop q one.row one.size) refl refl (frugal_drop q one.row one.size)))
     in
     subst IsFrugal (sym trims.4) (frugal_append trims.0 trims.1 first (frugal_trims limits q own trims.1 trims.3))
 

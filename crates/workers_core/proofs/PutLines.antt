@@ -1,5 +1,5 @@
 -- a put by the limits of its queue
-use Rattle.std.proofs.Common.{◌≡◌, ◌≤◌, ◌<◌, ◌+◌, ◌-◌, ◌^◌, ℕ, Bool, inl, inr, true, false, cond, nat_eq, Option, Some, None, List, [], ◌∷◌, ◌++◌, length, map, slice_get, slice_set, refl, sym, ap, ap₂, ◌∙◌, subst, eq-eqb, ne_eqb, append-nil, arith}
+use Rattle.std.proofs.Common.{◌≡◌, ◌≤◌, ◌<◌, ◌+◌, ◌-◌, ◌^◌, ℕ, Bool, inl, inr, true, false, cond, nat_eq, Option, Some, None, List, [], ◌∷◌, ◌++◌, length, map, slice_get, slice_set, refl, sym, ap, ap₂, ◌∙◌, subst, eq-eqb, ne_eqb, arith}
 use Rattle.std.specs.Prelude.{get_or, is_some}
 use Rattle.std.specs.Option.{option_map}
 use Rattle.std.proofs.lemmas.List.{length-append}
@@ -65,9 +65,11 @@ put_may build a b slip load d opening fits key same m =
 pub put_also : (build : Build) (a b : Sight) (q row : ℕ) (slip : Slip) (load : Load) (displaced : Option (ℕ × Load)) (hands : List Hand) → Called build a b (CallPut slip load) (IsAt row displaced) → Hold a q hands → HoldsAlso b q displaced hands
 put_also build a b q row slip load None hands m hold = hold_same a b q hands (λ r. keeps_call build a b (CallPut slip load) (IsAt row None) m r tt) hold
 put_also build a b q row slip load (Some d) hands m hold =
-    let k : Hand = hand q d.0 d.1.id (Some d.1) in
-    (hold_gained build a b (CallPut slip load) (IsAt row (Some d)) q k hands m hold refl
-    (gains_mine build a b (CallPut slip load) (IsAt row (Some d)) m q d.0 d.1 d.1.count refl (omega arith)) (keeps_call build a b (CallPut slip load) (IsAt row (Some d)) m d.0 refl), hold.apart)
+    let k : Hand = hand q d.0 d.1.id (Some d.1) in (
+      hold_gained build a b (CallPut slip load) (IsAt row (Some d)) q k hands m hold refl
+          (gains_mine build a b (CallPut slip load) (IsAt row (Some d)) m q d.0 d.1 d.1.count refl (omega arith)) (keeps_call build a b (CallPut slip load) (IsAt row (Some d)) m d.0 refl),
+      hold.apart,
+    )
 
 -- only on a last-value queue something is displaced
 displaced_last : (build : Build) (a b : Sight) (slip : Slip) (load : Load) (row : ℕ) (d : ℕ × Load) → Called build a b (CallPut slip load) (IsAt row (Some d)) → displaced_by build.kind ≡ 1
@@ -103,54 +105,54 @@ module _ {C : Type 0} (f : C → ℕ × Load) (o : Option C) (limits : Limits) (
     (older : Drops (DropsOlder q (option_map f o)) build q b hs xs c is ys)
     (oldest : Drops (TrimsRing (is_ring limits) limits q) build q c is ys d ks zs)
   where
-  first_more : length ys ≡ length xs + length older.own
-  first_more = ap length older.named ∙ length-append xs older.own
+    first_more : length ys ≡ length xs + length older.own
+    first_more = ap length older.named ∙ length-append xs older.own
 
-  then_more : length zs ≡ length ys + length oldest.own
-  then_more = ap length oldest.named ∙ length-append ys oldest.own
+    then_more : length zs ≡ length ys + length oldest.own
+    then_more = ap length oldest.named ∙ length-append ys oldest.own
 
-  stays : left_to build b ≤ left_to build a
-  stays = left_call build a b (CallPut slip load) (IsAt row (option_map f o)) put
+    stays : left_to build b ≤ left_to build a
+    stays = left_call build a b (CallPut slip load) (IsAt row (option_map f o)) put
 
-  -- what was dropped is no more than there is room for
-  pub enter_left : length zs + left_to build d ≤ length xs + left_to build a
-  enter_left = omega (arith, first_more, then_more, older.fewer, oldest.fewer, stays)
+    -- what was dropped is no more than there is room for
+    pub enter_left : length zs + left_to build d ≤ length xs + left_to build a
+    enter_left = omega (arith, first_more, then_more, older.fewer, oldest.fewer, stays)
 
-  pub enter_few : is_ring limits ≡ false → length zs ≤ length xs + displaced_by build.kind
-  enter_few plain =
-      let none : (oldest.own ≡ []) × (oldest.dids ≡ []) = subst (λ (r : Bool). TrimsRing r limits q oldest.own oldest.dids) plain oldest.fact in
-      let zero : length oldest.own ≡ 0 = ap length none.0 in
-      omega (arith, first_more, then_more, zero, older_few f o build a b slip load row q older.own older.dids put older.fact)
+    pub enter_few : is_ring limits ≡ false → length zs ≤ length xs + displaced_by build.kind
+    enter_few plain =
+        let none : (oldest.own ≡ []) × (oldest.dids ≡ []) = subst (λ (r : Bool). TrimsRing r limits q oldest.own oldest.dids) plain oldest.fact in
+        let zero : length oldest.own ≡ 0 = ap length none.0 in
+        omega (arith, first_more, then_more, zero, older_few f o build a b slip load row q older.own older.dids put older.fact)
 
-  pub enter_numbered : (n cap : ℕ) → n ≡ length xs → HasRoom (droppable limits build a) n cap → length zs < 2 ^ 32
-  enter_numbered n cap same room = by_ring (is_ring limits) refl room.numbered where
-    by_ring : (r : Bool) → is_ring limits ≡ r → n + cond r (left_to build a) (displaced_by build.kind) < 2 ^ 32 → length zs < 2 ^ 32
-    by_ring true is few = omega (arith, few, enter_left, same)
-    by_ring false is few = omega (arith, few, enter_few is, same)
+    pub enter_numbered : (n cap : ℕ) → n ≡ length xs → HasRoom (droppable limits build a) n cap → length zs < 2 ^ 32
+    enter_numbered n cap same room = by_ring (is_ring limits) refl room.numbered where
+      by_ring : (r : Bool) → is_ring limits ≡ r → n + cond r (left_to build a) (displaced_by build.kind) < 2 ^ 32 → length zs < 2 ^ 32
+      by_ring true is few = omega (arith, few, enter_left, same)
+      by_ring false is few = omega (arith, few, enter_few is, same)
 
-  abbrev Behind : List Dropped → List Did → Type 0
-  Behind own dids = Enters limits q slip load own (On q (CallPut slip load) (IsAt row (option_map f o)) ∷ dids)
+    abbrev Behind : List Dropped → List Did → Type 0
+    Behind own dids = Enters limits q slip load own (On q (CallPut slip load) (IsAt row (option_map f o)) ∷ dids)
 
-  abbrev both : Drops Behind build q b hs xs d ks zs
-  both = drops_then (DropsOlder q (option_map f o)) (TrimsRing (is_ring limits) limits q) Behind build q b c d hs is ks xs ys zs
-      (λ o1 o2 d1 d2 x y. record { row = row; displaced = option_map f o; older = o1; older_dids = d1; drops_older = x; oldest = o2; oldest_dids = d2; trims = y; all = refl; did = refl }) older oldest
+    abbrev both : Drops Behind build q b hs xs d ks zs
+    both = drops_then (DropsOlder q (option_map f o)) (TrimsRing (is_ring limits) limits q) Behind build q b c d hs is ks xs ys zs
+        (λ o1 o2 d1 d2 x y. record { row = row; displaced = option_map f o; older = o1; older_dids = d1; drops_older = x; oldest = o2; oldest_dids = d2; trims = y; all = refl; did = refl }) older oldest
 
-  abbrev entered : Drops (Enters limits q slip load) build q a hs xs d ks zs
-  entered = record {
-    own = both.own;
-    dids = On q (CallPut slip load) (IsAt row (option_map f o)) ∷ both.dids;
-    fact = both.fact;
-    ran = rw (eq-eqb q q refl) (ran_append build ((CallPut slip load, IsAt row (option_map f o)) ∷ []) (calls_on q both.dids) a b d (ran_call build a b (CallPut slip load) (IsAt row (option_map f o)) put) both.ran);
-    named = both.named;
-    gone = both.gone;
-    fewer = omega (arith, both.fewer, stays);
-  }
+    abbrev entered : Drops (Enters limits q slip load) build q a hs xs d ks zs
+    entered = record {
+      own = both.own;
+      dids = On q (CallPut slip load) (IsAt row (option_map f o)) ∷ both.dids;
+      fact = both.fact;
+      ran = rw (eq-eqb q q refl) (ran_append build ((CallPut slip load, IsAt row (option_map f o)) ∷ []) (calls_on q both.dids) a b d (ran_call build a b (CallPut slip load) (IsAt row (option_map f o)) put) both.ran);
+      named = both.named;
+      gone = both.gone;
+      fewer = omega (arith, both.fewer, stays);
+    }
 
-  pub entered_with : (answer : report.Answer) (from to : ℕ) → from ≡ length xs → to ≡ length zs → answer ≡ Accepted slip.id false (record { from = from; to = to }) → EntersWith limits slip load build q a hs xs d ks zs answer
-  entered_with answer from to at until is = record {
-    does = entered;
-    answer = is ∙ ap₂ (λ (i j : ℕ). Accepted slip.id false (record { from = i; to = j })) at (until ∙ ap length both.named ∙ length-append xs both.own);
-  }
+    pub entered_with : (answer : report.Answer) (from to : ℕ) → from ≡ length xs → to ≡ length zs → answer ≡ Accepted slip.id false (record { from = from; to = to }) → EntersWith limits slip load build q a hs xs d ks zs answer
+    entered_with answer from to at until is = record {
+      does = entered;
+      answer = is ∙ ap₂ (λ (i j : ℕ). Accepted slip.id false (record { from = i; to = j })) at (until ∙ ap length both.named ∙ length-append xs both.own);
+    }
 
 -- Calls on other queues
 
@@ -175,7 +177,7 @@ off_trims r q limits [] dids apart (depth, inl (within, did)) = ap (calls_on r) 
 off_trims r q limits [] dids apart (depth, inr (beyond, did)) = ap (calls_on r) did ∙ off_one r q CallDepth (IsDepth depth) (On q CallOldest IsEmpty ∷ []) apart (off_one r q CallOldest IsEmpty [] apart refl)
 off_trims r q limits (x ∷ own) dids apart trims =
     let one : DropsOldest limits q x trims.0 = trims.2 in
-    let first : calls_on r trims.0 ≡ [] = 
+    let first : calls_on r trims.0 ≡ [] =
     ap (calls_on r) one.did
     ∙ off_one r q CallDepth (IsDepth one.depth) (On q CallOldest (IsGot one.row one.list one.load) ∷ drop q one.row one.size) apart
     (off_one r q CallOldest (IsGot one.row one.list one.load) (drop q one.row one.size) apart (off_drop r q one.row one.size apart)) in
@@ -213,86 +215,86 @@ never_flows limits was now persistent size d serves is = by_policy limits.policy
 module _ (defs : List Defined) (build : Build) (q : ℕ) (s : Standing) (def : Defined) (m : Content) (slip : Slip) (was now : Bool) (limits : Limits) (persistent : Bool) (a b : Sight) (hands : List Hand) (drops : List Dropped)
     (defined : slice_get defs q ≡ Some def) (same_limits : def.limits ≡ limits) (fits : IsSlip def m slip) (same_flag : m.persistent ≡ persistent) (s_hands : s.hands ≡ hands) (s_stopped : slice_get s.stopped q ≡ Some was) (s_drops : s.drops ≡ drops)
   where
-  abbrev asks : (v : Verdict) → Admits build a b limits was now persistent slip.size v → fit.Asks defs s q m v
-  asks v admits = record {
-    def = def;
-    defined = defined;
-    slip = slip;
-    fits = fits;
-    depth = admits.shown;
-    was = was;
-    before = s_stopped;
-    now = now;
-    verdict = subst (λ (l : Limits). (v, now) ≡ judged l was m.persistent slip.size admits.shown) (sym same_limits) (subst (λ (p : Bool). (v, now) ≡ judged limits was p slip.size admits.shown) (sym same_flag) admits.verdict);
-  }
+    abbrev asks : (v : Verdict) → Admits build a b limits was now persistent slip.size v → fit.Asks defs s q m v
+    asks v admits = record {
+      def = def;
+      defined = defined;
+      slip = slip;
+      fits = fits;
+      depth = admits.shown;
+      was = was;
+      before = s_stopped;
+      now = now;
+      verdict = subst (λ (l : Limits). (v, now) ≡ judged l was m.persistent slip.size admits.shown) (sym same_limits) (subst (λ (p : Bool). (v, now) ≡ judged limits was p slip.size admits.shown) (sym same_flag) admits.verdict);
+    }
 
-  abbrev after : List Hand → List Dropped → Standing
-  after hs ds = record s { hands = hs; stopped = slice_set s.stopped q now; drops = ds }
+    abbrev after : List Hand → List Dropped → Standing
+    after hs ds = record s { hands = hs; stopped = slice_set s.stopped q now; drops = ds }
 
-  -- a put that was admitted
-  pub admitted_did : (c : Sight) (load : Load) (hands' : List Hand) (drops' : List Dropped) (answer : report.Answer) → load ≡ fresh m → Admits build a b limits was now persistent slip.size verdict.Admitted → EntersWith limits slip load build q b hands drops c hands' drops' answer
-      → DidOn defs build q a s (Put q m) answer c (after hands' drops')
-  admitted_did c load hands' drops' answer is_fresh admits with =
-      let same : b ≡ admits.between = admits.given in
-      let reserved : Called build a b (CallReserve slip.size) (IsDepth admits.shown) = subst (λ (t : Sight). Called build a t (CallReserve slip.size) (IsDepth admits.shown)) (sym same) admits.reserved in
-      let does = with.does in
-      let own : List Dropped = does.own in
-      let e : Enters def.limits q slip (fresh m) own does.dids = subst (λ (l : Limits). Enters l q slip (fresh m) own does.dids) (sym same_limits) (subst (λ (l : Load). Enters limits q slip l own does.dids) is_fresh does.fact) in
-      let front : Did = On q (CallReserve slip.size) (IsDepth admits.shown) in
-      let leaves : after hands' drops' ≡ after (let_go own s.hands) (s.drops ++ own) =
-      ap₂ after (does.gone ∙ ap (let_go own) (sym s_hands)) (does.named ∙ ap (λ (ds : List Dropped). ds ++ own) (sym s_drops)) in
-      let puts : fit.Puts defs s q m own (front ∷ does.dids) (after hands' drops') = record {
-        asks = asks verdict.Admitted admits;
-        row = e.row;
-        displaced = e.displaced;
-        older = e.older;
-        older_dids = e.older_dids;
-        drops_older = e.drops_older;
-        oldest = e.oldest;
-        oldest_dids = e.oldest_dids;
-        trims = e.trims;
-        all = e.all;
-        did = ap (λ (ds : List Did). front ∷ ds) e.did;
-        leaves = leaves;
-      } in
-      let told : LineFits defs s (Put q m) (Accepted slip.id false (span_of drops own)) (front ∷ does.dids) (after hands' drops') = (fits.id, refl, (own, ap (λ (ds : List Dropped). span_of ds own) (sym s_drops), puts)) in
-      record {
-        dids = front ∷ does.dids;
-        fits = subst (λ (r : report.Answer). LineFits defs s (Put q m) r (front ∷ does.dids) (after hands' drops')) (sym with.answer) told;
-        here = rw (eq-eqb q q refl) (ran_append build ((CallReserve slip.size, IsDepth admits.shown) ∷ []) (calls_on q does.dids) a b c (ran_call build a b (CallReserve slip.size) (IsDepth admits.shown) reserved) does.ran);
-        elsewhere = λ r apart. off_one r q (CallReserve slip.size) (IsDepth admits.shown) does.dids apart (off_enters r q def.limits slip (fresh m) own does.dids apart e);
-      }
+    -- a put that was admitted
+    pub admitted_did : (c : Sight) (load : Load) (hands' : List Hand) (drops' : List Dropped) (answer : report.Answer) → load ≡ fresh m → Admits build a b limits was now persistent slip.size verdict.Admitted → EntersWith limits slip load build q b hands drops c hands' drops' answer
+        → DidOn defs build q a s (Put q m) answer c (after hands' drops')
+    admitted_did c load hands' drops' answer is_fresh admits with =
+        let same : b ≡ admits.between = admits.given in
+        let reserved : Called build a b (CallReserve slip.size) (IsDepth admits.shown) = subst (λ (t : Sight). Called build a t (CallReserve slip.size) (IsDepth admits.shown)) (sym same) admits.reserved in
+        let does = with.does in
+        let own : List Dropped = does.own in
+        let e : Enters def.limits q slip (fresh m) own does.dids = subst (λ (l : Limits). Enters l q slip (fresh m) own does.dids) (sym same_limits) (subst (λ (l : Load). Enters limits q slip l own does.dids) is_fresh does.fact) in
+        let front : Did = On q (CallReserve slip.size) (IsDepth admits.shown) in
+        let leaves : after hands' drops' ≡ after (let_go own s.hands) (s.drops ++ own) =
+        ap₂ after (does.gone ∙ ap (let_go own) (sym s_hands)) (does.named ∙ ap (λ (ds : List Dropped). ds ++ own) (sym s_drops)) in
+        let puts : fit.Puts defs s q m own (front ∷ does.dids) (after hands' drops') = record {
+          asks = asks verdict.Admitted admits;
+          row = e.row;
+          displaced = e.displaced;
+          older = e.older;
+          older_dids = e.older_dids;
+          drops_older = e.drops_older;
+          oldest = e.oldest;
+          oldest_dids = e.oldest_dids;
+          trims = e.trims;
+          all = e.all;
+          did = ap (λ (ds : List Did). front ∷ ds) e.did;
+          leaves = leaves;
+        } in
+        let told : LineFits defs s (Put q m) (Accepted slip.id false (span_of drops own)) (front ∷ does.dids) (after hands' drops') = (fits.id, refl, (own, ap (λ (ds : List Dropped). span_of ds own) (sym s_drops), puts)) in
+        record {
+          dids = front ∷ does.dids;
+          fits = subst (λ (r : report.Answer). LineFits defs s (Put q m) r (front ∷ does.dids) (after hands' drops')) (sym with.answer) told;
+          here = rw (eq-eqb q q refl) (ran_append build ((CallReserve slip.size, IsDepth admits.shown) ∷ []) (calls_on q does.dids) a b c (ran_call build a b (CallReserve slip.size) (IsDepth admits.shown) reserved) does.ran);
+          elsewhere = λ r apart. off_one r q (CallReserve slip.size) (IsDepth admits.shown) does.dids apart (off_enters r q def.limits slip (fresh m) own does.dids apart e);
+        }
 
-  refuses : (v : Verdict) (t : Sight) (d : Depth) → Admits build a b limits was now persistent slip.size v → Called build a t (CallReserve slip.size) (IsDepth d) → Called build t b (CallGiveBack slip.size) IsDone
-      → RanOn build (calls_on q (On q (CallReserve slip.size) (IsDepth d) ∷ (On q (CallGiveBack slip.size) IsDone ∷ []))) a b
-  refuses v t d admits reserved given =
-      let pairs : List (Call × Answer) = (CallReserve slip.size, IsDepth d) ∷ (CallGiveBack slip.size, IsDone) ∷ [] in
-      let same : calls_on q (On q (CallReserve slip.size) (IsDepth d) ∷ (On q (CallGiveBack slip.size) IsDone ∷ [])) ≡ pairs = rw (eq-eqb q q refl) refl in
-      rw same (ran_append build ((CallReserve slip.size, IsDepth d) ∷ []) ((CallGiveBack slip.size, IsDone) ∷ []) a t b (ran_call build a t (CallReserve slip.size) (IsDepth d) reserved) (ran_call build t b (CallGiveBack slip.size) IsDone given))
+    refuses : (v : Verdict) (t : Sight) (d : Depth) → Admits build a b limits was now persistent slip.size v → Called build a t (CallReserve slip.size) (IsDepth d) → Called build t b (CallGiveBack slip.size) IsDone
+        → RanOn build (calls_on q (On q (CallReserve slip.size) (IsDepth d) ∷ (On q (CallGiveBack slip.size) IsDone ∷ []))) a b
+    refuses v t d admits reserved given =
+        let pairs : List (Call × Answer) = (CallReserve slip.size, IsDepth d) ∷ (CallGiveBack slip.size, IsDone) ∷ [] in
+        let same : calls_on q (On q (CallReserve slip.size) (IsDepth d) ∷ (On q (CallGiveBack slip.size) IsDone ∷ [])) ≡ pairs = rw (eq-eqb q q refl) refl in
+        rw same (ran_append build ((CallReserve slip.size, IsDepth d) ∷ []) ((CallGiveBack slip.size, IsDone) ∷ []) a t b (ran_call build a t (CallReserve slip.size) (IsDepth d) reserved) (ran_call build t b (CallGiveBack slip.size) IsDone given))
 
-  refusal : (v : Verdict) (admits : Admits build a b limits was now persistent slip.size v)
-      → fit.Refuses defs s q m v (On q (CallReserve slip.size) (IsDepth admits.shown) ∷ (On q (CallGiveBack slip.size) IsDone ∷ [])) (after hands drops)
-  refusal v admits = record { asks = asks v admits; did = refl; leaves = ap₂ after (sym s_hands) (sym s_drops) }
+    refusal : (v : Verdict) (admits : Admits build a b limits was now persistent slip.size v)
+        → fit.Refuses defs s q m v (On q (CallReserve slip.size) (IsDepth admits.shown) ∷ (On q (CallGiveBack slip.size) IsDone ∷ [])) (after hands drops)
+    refusal v admits = record { asks = asks v admits; did = refl; leaves = ap₂ after (sym s_hands) (sym s_drops) }
 
-  off_two : (r : ℕ) (d : Depth) → (r ≡ q → ⊥) → calls_on r (On q (CallReserve slip.size) (IsDepth d) ∷ (On q (CallGiveBack slip.size) IsDone ∷ [])) ≡ []
-  off_two r d apart = off_one r q (CallReserve slip.size) (IsDepth d) (On q (CallGiveBack slip.size) IsDone ∷ []) apart (off_one r q (CallGiveBack slip.size) IsDone [] apart refl)
+    off_two : (r : ℕ) (d : Depth) → (r ≡ q → ⊥) → calls_on r (On q (CallReserve slip.size) (IsDepth d) ∷ (On q (CallGiveBack slip.size) IsDone ∷ [])) ≡ []
+    off_two r d apart = off_one r q (CallReserve slip.size) (IsDepth d) (On q (CallGiveBack slip.size) IsDone ∷ []) apart (off_one r q (CallGiveBack slip.size) IsDone [] apart refl)
 
-  -- a put that was refused
-  pub rejected_did : (d : Depth) → Admits build a b limits was now persistent slip.size (verdict.Rejected d) → DidOn defs build q a s (Put q m) (Rejected d) b (after hands drops)
-  rejected_did d admits = record {
-    dids = On q (CallReserve slip.size) (IsDepth admits.shown) ∷ (On q (CallGiveBack slip.size) IsDone ∷ []);
-    fits = refusal (verdict.Rejected d) admits;
-    here = refuses (verdict.Rejected d) admits.between admits.shown admits admits.reserved admits.given;
-    elsewhere = λ r apart. off_two r admits.shown apart;
-  }
+    -- a put that was refused
+    pub rejected_did : (d : Depth) → Admits build a b limits was now persistent slip.size (verdict.Rejected d) → DidOn defs build q a s (Put q m) (Rejected d) b (after hands drops)
+    rejected_did d admits = record {
+      dids = On q (CallReserve slip.size) (IsDepth admits.shown) ∷ (On q (CallGiveBack slip.size) IsDone ∷ []);
+      fits = refusal (verdict.Rejected d) admits;
+      here = refuses (verdict.Rejected d) admits.between admits.shown admits admits.reserved admits.given;
+      elsewhere = λ r apart. off_two r admits.shown apart;
+    }
 
-  pub blocked_did : (d : Depth) → Admits build a b limits was now persistent slip.size (verdict.Blocked d) → DidOn defs build q a s (Put q m) (Blocked d) b (after hands drops)
-  blocked_did d admits = record {
-    dids = On q (CallReserve slip.size) (IsDepth admits.shown) ∷ (On q (CallGiveBack slip.size) IsDone ∷ []);
-    fits = refusal (verdict.Blocked d) admits;
-    here = refuses (verdict.Blocked d) admits.between admits.shown admits admits.reserved admits.given;
-    elsewhere = λ r apart. off_two r admits.shown apart;
-  }
+    pub blocked_did : (d : Depth) → Admits build a b limits was now persistent slip.size (verdict.Blocked d) → DidOn defs build q a s (Put q m) (Blocked d) b (after hands drops)
+    blocked_did d admits = record {
+      dids = On q (CallReserve slip.size) (IsDepth admits.shown) ∷ (On q (CallGiveBack slip.size) IsDone ∷ []);
+      fits = refusal (verdict.Blocked d) admits;
+      here = refuses (verdict.Blocked d) admits.between admits.shown admits admits.reserved admits.given;
+      elsewhere = λ r apart. off_two r admits.shown apart;
+    }
 
 -- what a decision leaves of the hands, and of the rows that are left
 reserved_hold : (build : Build) (a t : Sight) (size q : ℕ) (d : Depth) (hands : List Hand) → Called build a t (CallReserve size) (IsDepth d) → Hold a q hands → Hold t q hands

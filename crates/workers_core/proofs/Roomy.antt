@@ -1,5 +1,5 @@
 -- room for what lines drop
-use Rattle.std.proofs.Common.{◌≡◌, ◌≤◌, ◌<◌, ◌+◌, ◌^◌, ◌||◌, ℕ, zero, suc, Bool, true, false, cond, Option, Some, None, List, [], ◌∷◌, ◌++◌, length, map, slice_get, slice_set, refl, sym, ap, ◌∙◌, subst, arith}
+use Rattle.std.proofs.Common.{◌≡◌, ◌≤◌, ◌<◌, ◌+◌, ◌^◌, ◌||◌, ℕ, zero, suc, Bool, true, false, cond, Some, List, [], ◌∷◌, ◌++◌, slice_get, slice_set, refl, sym, ap, ◌∙◌, subst, arith}
 use Rattle.std.specs.List.{list_any, sum_by}
 use Rattle.std.proofs.lemmas.List.Sums.{sum_by-cons}
 use Rattle.acts_core.specs.Sight.{Build, Sight}
@@ -11,7 +11,7 @@ use Rattle.message_core.specs.Spelling.{Content}
 use Rattle.overflow_core.specs.Limits.{is_ring}
 use Rattle.report_core.specs.declared.answers.Answer as report
 use Rattle.line_core.specs.Fits.{Standing}
-use Rattle.line_core.specs.Places.{AreOfKinds, kind_of}
+use Rattle.line_core.specs.Places.{kind_of}
 use Rattle.line_core.specs.Runs.{DidOn, calls_on}
 use Rattle.workers_core.specs.Drops.{HasRoom, all_drops, all_left, all_rows, displaced_at, displaced_by, displaces, droppable, is_ring_at, left_to, puts_to_ring}
 use Rattle.workers_core.specs.Jobs.{is_put}

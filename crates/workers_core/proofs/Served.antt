@@ -13,10 +13,8 @@ use Rattle.acts_core.specs.Sight.{Sight}
 use Rattle.defs_read.specs.Defined.{Defined, consumers_in, defined, queues_in}
 use Rattle.defs_read.specs.declared.defs.Defs.{Defs}
 use Rattle.defs_read.specs.declared.defs.QueueDef.{QueueDef}
-use Rattle.defs_read.specs.Slips.{HasNoKey, IsSlip, lists_of}
+use Rattle.defs_read.specs.Slips.{IsSlip, lists_of}
 use Rattle.defs_read.specs.declared.defs.ConsumerDef.{ConsumerDef}
-use Rattle.defs_read.specs.declared.defs.QueueKind.{QueueKind}
-use Rattle.defs_read.specs.declared.defs.QueueKind.TheVariants.{Standard, Priority, Sorted, LastValue}
 use Rattle.message_core.specs.Spelling.{Content}
 use Rattle.script_read.specs.Allowed.{HasConsumer, IsDefined, IsOpOf}
 use Rattle.script_read.specs.declared.lines.Op.{Op}

@@ -1,5 +1,5 @@
 -- an actor before and after a phase
-use Rattle.std.specs.Prelude.{◌≡◌, ℕ, ◌≤◌, List, [], ◌++◌, length, map, reverse}
+use Rattle.std.specs.Prelude.{◌≡◌, ℕ, ◌≤◌, List, ◌++◌, length, map, reverse}
 use Rattle.std.specs.List.{AllByRecursion}
 use Rattle.acts_core.specs.Sight.{Build, Sight}
 use Rattle.defs_read.specs.Defined.{Defined}

@@ -1,5 +1,5 @@
 -- what an actor needs of its queues and passes before a line, and has again after it
-use Rattle.std.specs.Prelude.{◌≡◌, ℕ, ◌+◌, ◌<◌, ◌≤◌, if◌then◌else◌, Some, None, List, length, slice_get}
+use Rattle.std.specs.Prelude.{◌≡◌, ℕ, ◌+◌, ◌<◌, ◌≤◌, if◌then◌else◌, Some, List, length, slice_get}
 use Rattle.std.specs.List.{AllByRecursion, count_by, sum_by}
 use mathlib.Core.List.{Mem}
 use Rattle.queue_model.specs.Table.{FitsQueue}

@@ -94,7 +94,10 @@ pub(crate) fn on_queue<Q: SharedQueue<Parcel>>(
     ensures same { is_put what ≡ false → vec_len drops.new ≡ vec_len drops.old }
 {
     match what {
-        What::Put { queue: _queue, message } => match aid {
+        What::Put {
+            queue: _queue,
+            message,
+        } => match aid {
             Aid::Slip(slip) => put_line(
                 defs, queue, pass, held, stopped, drops, number, message, slip,
             ),

@@ -1,5 +1,4 @@
 use Rattle.std.proofs.Common.{◌<◌, ℕ, None, [], ◌∷◌, ◌++◌, ◌∙◌, ap, sym, subst, arith}
-use Rattle.report_core.specs.declared.answers.Dropped.{Dropped}
 use Rattle.acts_core.proofs.Passes.{pass_dequeues}
 use Rattle.txn_core.specs.Parcels.{load_of}
 use Rattle.line_core.specs.Fits.{dropped}

@@ -1,10 +1,10 @@
-use Rattle.std.proofs.Common.{◌≡◌, true, Some, sym, ap, subst}
+use Rattle.std.proofs.Common.{sym, ap, subst}
 use Rattle.std.specs.Prelude.{is_some}
 use Rattle.std.specs.Option.{option_map}
 use Rattle.txn_core.specs.Parcels.{load_of}
 use Rattle.line_core.specs.Fits.{DropsOlder}
 use Rattle.workers_core.specs.Held.{hands_of}
-use Rattle.workers_core.specs.Hold.{Hold, HoldsAlso}
+use Rattle.workers_core.specs.Hold.{HoldsAlso}
 use Rattle.workers_core.specs.Lines.{Drops}
 use Rattle.workers_core.proofs.Dropping.{drop_none}
 use Rattle.workers_core.proofs.Holds.{others_same}

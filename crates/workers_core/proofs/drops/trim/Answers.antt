@@ -1,7 +1,6 @@
-use Rattle.std.proofs.Common.{◌≡◌, ◌≤◌, ◌<◌, ◌+◌, true, length, refl, sym, ap, ◌∙◌, subst, arith}
+use Rattle.std.proofs.Common.{◌≡◌, ◌≤◌, ◌+◌, length, refl, ap, ◌∙◌, arith}
 use Rattle.std.proofs.lemmas.List.{length-append}
 use Rattle.txn_core.specs.Parcels.{load_of}
-use Rattle.overflow_core.specs.Limits.{is_ring}
 use Rattle.workers_core.specs.Drops.{left_to}
 use Rattle.workers_core.specs.Held.{hands_of}
 use Rattle.workers_core.proofs.Dropping.{fits_hold, nothing_hold, others_then, over_hold, trim_fits, trim_more, trim_nothing, trim_start, trims_left}

@@ -1,4 +1,4 @@
-use Rattle.std.proofs.Common.{◌≡◌, ◌<◌, ◌≤◌, ◌+◌, List, [], ◌∷◌, map, length, slice_set, refl, sym, ap, ◌∙◌, subst, arith, vec_len}
+use Rattle.std.proofs.Common.{◌<◌, ◌≤◌, ◌+◌, List, [], ◌∷◌, map, length, slice_set, refl, sym, ap, ◌∙◌, subst, arith, vec_len}
 use Rattle.acts_core.specs.Sight.{Sight}
 use Rattle.defs_read.specs.Defined.{queues_in}
 use Rattle.script_read.specs.declared.lines.What.{What}

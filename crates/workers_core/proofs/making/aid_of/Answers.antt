@@ -1,6 +1,6 @@
 use Rattle.std.proofs.Common.{sym, subst, ◌∙◌}
 use Rattle.defs_read.specs.Allowed.{IsAllowed}
-use Rattle.defs_read.specs.Defined.{Defined, defined, queues_in}
+use Rattle.defs_read.specs.Defined.{defined, queues_in}
 use Rattle.script_read.specs.declared.lines.What.{What}
 use Rattle.workers_core.specs.Jobs.{JobFits}
 use Rattle.workers_core.specs.Ready.{Serves}

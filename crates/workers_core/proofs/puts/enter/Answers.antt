@@ -1,6 +1,5 @@
-use Rattle.std.proofs.Common.{ℕ, refl, sym, ap, ◌∙◌, arith}
+use Rattle.std.proofs.Common.{refl, arith}
 use Rattle.std.specs.Option.{option_map}
-use Rattle.acts_core.specs.Load.{Load}
 use Rattle.txn_core.specs.Parcels.{load_of}
 use Rattle.workers_core.specs.Held.{hands_of}
 use Rattle.workers_core.proofs.Dropping.{others_then}

@@ -1,5 +1,5 @@
 use Rattle.std.proofs.Common.{sym, ◌∙◌}
-use Rattle.txn_core.specs.Parcels.{load_of, shown}
+use Rattle.txn_core.specs.Parcels.{load_of}
 use Rattle.workers_core.specs.Held.{hands_of}
 use Rattle.workers_core.proofs.PutLines.{admitted_call, admitted_did, admitted_hold, blocked_did, blocked_hold, put_may, rejected_did, rejected_hold}
 use Rattle.workers_core.proofs.puts.put_by.Goals as goal
