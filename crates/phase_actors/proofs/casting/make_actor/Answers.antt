@@ -3,7 +3,7 @@ use Rattle.any_queue.specs.Kinds.{sight_in}
 use Rattle.defs_read.specs.Defined.{queues_in}
 use Rattle.workers_core.proofs.OneJob.{map_length}
 use Rattle.phase_actors.specs.Passes.{AreSplit}
-use Rattle.phase_actors.proofs.Actors.{all_within, no_headers}
+use Rattle.phase_actors.proofs.Actors.{all_within}
 use Rattle.phase_actors.proofs.Moving.{unmade_back}
 use Rattle.phase_actors.proofs.Parting.{all_may_part, may_put, passes_for}
 use Rattle.phase_actors.proofs.casting.make_actor.Goals as goal
@@ -15,9 +15,6 @@ split_all-requires-clause-may g c =
 pub move_targets-requires-clause-numbers : goal.move_targets-requires-clause-numbers
 move_targets-requires-clause-numbers g c =
     rw c.deref-2.ensures.value (all_within (queues_in c.args.defs.now) _ c.args.name c.args.ops.items c.requires.allowed c.requires.own)
-
-pub make-requires-clause-kinds : goal.make-requires-clause-kinds
-make-requires-clause-kinds g c κs = no_headers (queues_in c.args.defs.now) c.requires.lists
 
 pub make-requires-clause-passes : goal.make-requires-clause-passes
 make-requires-clause-passes g c κs =
