@@ -4,6 +4,7 @@ pub mod Acting
 pub mod RowCounts
 pub mod Handing
 pub mod Tracking
+pub mod Dropping
 pub mod LineTracks
 pub mod Telling
 pub mod Counting

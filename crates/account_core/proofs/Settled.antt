@@ -26,7 +26,7 @@ use Rattle.acts_core.specs.Sight.{Build, Plan, plan_of}
 use Rattle.acts_core.proofs.Chaining.{chain_grows}
 use Rattle.acts_core.proofs.Gaining.{call_gains}
 use Rattle.defs_read.specs.Defined.{Defined}
-use Rattle.line_core.specs.Fits.{Did, On, unlocks}
+use Rattle.line_core.specs.Fits.{Did, On, begins, unlocks}
 use Rattle.line_core.specs.Runs.{calls_on}
 use Rattle.account_core.specs.Last.{leads_to}
 use Rattle.account_core.specs.Played.{IsByActor, IsGathered, Makes}
@@ -36,7 +36,7 @@ use Rattle.account_core.proofs.Acting.{acts_by, count_cons, last_of_acts}
 use Rattle.account_core.proofs.Closing.{joined_makes}
 use Rattle.account_core.proofs.Last.{last_touch}
 use Rattle.account_core.proofs.LineTracks.{DidKnown, Known, lines_track, tracks_end, all_parts}
-use Rattle.account_core.proofs.Putting.{own_calls, rows_count}
+use Rattle.account_core.proofs.Putting.{few_entered, own_calls, rows_count}
 use Rattle.account_core.proofs.Tracking.{HasRow, IdsApart, dequeues, dids_last, last_of_dids, locks, tracks_none}
 
 -- Rows of one id
@@ -118,7 +118,7 @@ story_ends q defs s p h history r is makes apart =
     ap (last_on r) (own_calls p h history (calls_on q (calls_of s)) makes) ∙ last_of_acts h r (acts_by p (calls_on q (calls_of s))) ∙ last_of_dids p q r (calls_of s)
     in
     let known = dids_known q all (calls_of s) (subst (AllByRecursion (CallKnown all)) makes.same (chain_known p h [] makes.made history makes.chain)) in
-    let t = lines_track q all defs (record { hands = []; seats = s.seats }) s.ops s.answers s.dids s.end [] is apart (all_parts (DidKnown q all) s.dids (unlocks s.end.hands) known).0 (tracks_none q all) in
+    let t = lines_track q all defs (begins defs s.seats) s.ops s.answers s.dids s.end [] is apart (all_parts (DidKnown q all) s.dids (unlocks s.end.hands) known).0 (tracks_none q all) in
     let ends = tracks_end q all s.dids s.end.hands r t in
     (ap locks same ∙ ends.0, ap dequeues same ∙ ends.1)
 
@@ -169,7 +169,7 @@ settles defs q stories build opening history r x opens are gathered once_each fo
   all = after opening history
 
   apart : IdsApart all
-  apart = ids_apart all (λ id. omega (arith, rows_count defs q stories build opening history (λ i. i == id) are gathered, once_each id))
+  apart = ids_apart all (λ id. omega (arith, rows_count defs q stories build opening history (λ i. i == id) are gathered, few_entered q (λ i. i == id) stories, once_each id))
 
   ends_of : (k : ℕ) (a : Act) → last_on r (own k history) ≡ Some a → (locks (Some a) ≡ false) × (dequeues (Some a) ≡ false)
   ends_of zero a last = absurd (omega (arith, (acts_among (length stories) zero history r a gathered.callers last).0))

@@ -3,7 +3,7 @@ ghost use Rattle.account_core.specs.Laws.{AccountTold, CarryFrees, CarryKeeps, C
 ghost use Rattle.account_core.specs.Last.{LastTouch};
 ghost use Rattle.account_core.specs.Runs.{NoneRan};
 ghost use Rattle.account_core.specs.Served.{StoryServes};
-ghost use Rattle.account_core.specs.Settling.{HandsOnCount, OpensCount, RowsCount, Settles, StatesNamed};
+ghost use Rattle.account_core.specs.Settling.{FewEntered, HandsOnCount, OpensCount, RowsCount, Settles, StatesNamed};
 ghost use Rattle.account_core.specs.TwoPhases.{TwoPhasesRuns, TwoPhasesText};
 
 /// What no history has: an entry with two holders, or one that is dequeued twice; and how a row came into its state.
@@ -40,6 +40,7 @@ pub fn queues()
 pub fn counts()
     ensures opens { OpensCount }
     ensures rows { RowsCount }
+    ensures entered { FewEntered }
     ensures hands_on { HandsOnCount }
 {}
 

@@ -210,6 +210,29 @@ const SCRIPTS: &[(&[&str], &str)] = &[
          a 10 blocked 4 65\na 11 got 2 1\na 12 acked 2\na 13 ok 8\na 14 ok 9\n\
          queue q 5 81\nentry 3\nentry 4\nentry 5\nentry 8\nentry 9\n",
     ),
+    // Orders are refused at the limit, and of prices the oldest is dropped.
+    (
+        &[
+            "{\"queues\":[{\"name\":\"orders\",\"maximumQueueDepthMessages\":2,\"overflowPolicy\":\"REJECT\",\"consumers\":[{\"name\":\"billing\",\"actor\":\"bob\"}]},",
+            "{\"name\":\"prices\",\"maximumQueueDepthMessages\":2,\"overflowPolicy\":\"RING\",\"consumers\":[{\"name\":\"screen\",\"actor\":\"bob\"}]}]}\n",
+            "{\"do\":\"put\",\"actor\":\"shop\",\"queue\":\"orders\",\"id\":1001,\"headers\":{\"region\":\"EU\",\"amount\":250}}\n",
+            "{\"do\":\"put\",\"actor\":\"shop\",\"queue\":\"orders\",\"id\":1002,\"headers\":{\"region\":\"EU\",\"amount\":99}}\n",
+            "{\"do\":\"put\",\"actor\":\"shop\",\"queue\":\"prices\",\"id\":1,\"headers\":{\"stock\":\"ACME\",\"price\":1050}}\n",
+            "{\"do\":\"put\",\"actor\":\"shop\",\"queue\":\"prices\",\"id\":2,\"headers\":{\"stock\":\"ACME\",\"price\":1049}}\n",
+            "{\"do\":\"put\",\"actor\":\"shop\",\"queue\":\"orders\",\"id\":1003,\"headers\":{\"region\":\"US\",\"amount\":12}}\n",
+            "{\"do\":\"put\",\"actor\":\"shop\",\"queue\":\"prices\",\"id\":3,\"headers\":{\"stock\":\"ACME\",\"price\":1052}}\n",
+            REST,
+            "{\"do\":\"take\",\"actor\":\"bob\",\"consumer\":\"billing\"}\n",
+            "{\"do\":\"ack\",\"actor\":\"bob\",\"queue\":\"orders\"}\n",
+            "{\"do\":\"take\",\"actor\":\"bob\",\"consumer\":\"screen\"}\n",
+            "{\"do\":\"take\",\"actor\":\"bob\",\"consumer\":\"screen\"}\n",
+        ],
+        "shop 2 ok 1001\nshop 3 ok 1002\nshop 4 ok 1\nshop 5 ok 2\nshop 6 rejected 2 92\n\
+         shop 7 ok 3 dropped prices#1\n\
+         queue orders 2 92\nentry 1001\nentry 1002\nqueue prices 2 92\nentry 2\nentry 3\n\
+         bob 9 got 1001 1\nbob 10 acked 1001\nbob 11 got 2 1\nbob 12 got 3 1\n\
+         queue orders 1 46\nentry 1002\nqueue prices 2 92\nentry 2 held bob\nentry 3 held bob\n",
+    ),
     // Nobody is stopped when a phase begins.
     (
         &[
