@@ -256,7 +256,7 @@ hands_are s' t is = ap (λ (z : Standing). z.hands) is
 -- each line
 line_tracks : (q : ℕ) (all : Queue) (defs : List Defined) (s : Standing) (what : What) (answer : report.Answer) (dids : List Did) (s' : Standing) (before : List Did) → LineFits defs s what answer dids s'
     → IdsApart all → AllByRecursion (DidKnown q all) dids → Tracks q all before s.hands → Tracks q all (before ++ dids) s'.hands
-line_tracks q all defs s (Put p m) (Accepted id flowed acquired) dids s' before fits apart known t = put_tracks q all defs s p m fits.2 dids s' before fits.4 apart known t
+line_tracks q all defs s (Put p m) (Accepted id flowed acquired) dids s' before fits apart known t = put_tracks q all defs s p m fits.2.0 dids s' before fits.2.2 apart known t
 line_tracks q all defs s (Put p m) (Rejected depth) dids s' before fits apart known t = keeps q all before dids _ s'.hands s.hands fits.did (hands_are s' _ fits.leaves) (refl, (refl, tt)) t
 line_tracks q all defs s (Put p m) (Blocked depth) dids s' before fits apart known t = keeps q all before dids _ s'.hands s.hands fits.did (hands_are s' _ fits.leaves) (refl, (refl, tt)) t
 line_tracks q all defs s (Take d) Closed dids s' before fits apart known t = keeps q all before dids _ s'.hands s.hands fits.1.did (hands_are s' s fits.1.same) tt t

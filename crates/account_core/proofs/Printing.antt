@@ -99,7 +99,7 @@ from_named n q (x ∷ xs) within from = (subst (λ (k : ℕ). k < n) (sym from.0
 -- what each line drops
 line_drops : (n : ℕ) (defs : List Defined) (actor : List ℕ) (s : Standing) (what : What) (answer : report.Answer) (dids : List Did) (s' : Standing) → LineFits defs s what answer dids s' → n ≡ length defs → IsDefined defs actor what → DropsMore n s.drops s'.drops
 line_drops n defs actor s (Put q m) (Accepted id flowed acquired) dids s' fits many defined =
-    record { own = fits.2; all = ap (λ (z : Standing). z.drops) fits.4.leaves; named = from_named n q fits.2 (omega (arith, many, defined)) (puts_from defs s q m fits.2 dids s' fits.4) }
+    record { own = fits.2.0; all = ap (λ (z : Standing). z.drops) fits.2.2.leaves; named = from_named n q fits.2.0 (omega (arith, many, defined)) (puts_from defs s q m fits.2.0 dids s' fits.2.2) }
 line_drops n defs actor s (Put q m) (Rejected depth) dids s' fits many defined = drops_none n s s' _ fits.leaves refl
 line_drops n defs actor s (Put q m) (Blocked depth) dids s' fits many defined = drops_none n s s' _ fits.leaves refl
 line_drops n defs actor s (Take c) Closed dids s' fits many defined = drops_none n s s' s fits.1.same refl
@@ -119,7 +119,7 @@ line_drops n defs actor s (Lock q named) (Stolen state) dids s' fits many define
 line_drops n defs actor s (Lock q named) NotHeld dids s' fits many defined = drops_none n s s' s fits.1.same refl
 line_drops n defs actor s (Unlock q named) (LeftUnlocked id) dids s' fits many defined = drops_none n s s' _ fits.fact.does.leaves refl
 line_drops n defs actor s (Unlock q named) NotHeld dids s' fits many defined = drops_none n s s' s fits.1.same refl
-line_drops n defs actor s (Steal q id) (Stole told) dids s' fits many defined = drops_none n s s' _ fits.1.does.leaves refl
+line_drops n defs actor s (Steal q id) (Stole stolen) dids s' fits many defined = drops_none n s s' _ fits.1.does.leaves refl
 line_drops n defs actor s (Steal q id) (NotStealable state) dids s' fits many defined = drops_none n s s' _ fits.1.leaves refl
 line_drops n defs actor s (Steal q id) (Moved state) dids s' fits many defined = drops_none n s s' _ fits.1.leaves refl
 line_drops n defs actor s (Steal q id) Absent dids s' fits many defined = drops_none n s s' _ fits.leaves refl
@@ -155,7 +155,7 @@ module _ (queues : List (List ℕ)) (n : ℕ) (actors : List (List ℕ)) (drops 
   line_named : (defs : List Defined) (actor : List ℕ) (s : Standing) (what : What) (answer : report.Answer) (dids : List Did) (s' : Standing) → LineFits defs s what answer dids s' → n ≡ length defs → IsDefined defs actor what
       → AllByRecursion (DidNamed n actors) dids → length s'.drops ≤ length drops → Fits queues actors drops answer
   line_named defs actor s (Put q m) (Accepted id flowed acquired) dids s' fits many defined each few =
-      span_named s.drops fits.2 acquired fits.3 (subst (λ (xs : List Dropped). length xs ≤ length drops) (ap (λ (z : Standing). z.drops) fits.4.leaves) few)
+      span_named s.drops fits.2.0 acquired fits.2.1 (subst (λ (xs : List Dropped). length xs ≤ length drops) (ap (λ (z : Standing). z.drops) fits.2.2.leaves) few)
   line_named defs actor s (Put q m) (Rejected depth) dids s' fits many defined each few = tt
   line_named defs actor s (Put q m) (Blocked depth) dids s' fits many defined each few = tt
   line_named defs actor s (Take c) Closed dids s' fits many defined each few = tt
@@ -175,7 +175,7 @@ module _ (queues : List (List ℕ)) (n : ℕ) (actors : List (List ℕ)) (drops 
   line_named defs actor s (Lock q named) NotHeld dids s' fits many defined each few = tt
   line_named defs actor s (Unlock q named) (LeftUnlocked id) dids s' fits many defined each few = tt
   line_named defs actor s (Unlock q named) NotHeld dids s' fits many defined each few = tt
-  line_named defs actor s (Steal q id) (Stole told) dids s' fits many defined each few = tt
+  line_named defs actor s (Steal q id) (Stole stolen) dids s' fits many defined each few = tt
   line_named defs actor s (Steal q id) (NotStealable state) dids s' fits many defined each few =
       (subst (AllByRecursion (DidNamed n actors)) fits.1.did each).1.0 (omega (arith, many, defined)) state refl
   line_named defs actor s (Steal q id) (Moved state) dids s' fits many defined each few =

@@ -92,7 +92,7 @@ put_puts q test defs s r m own dids s' puts =
 -- the calls of a line put its message where it was admitted
 line_puts : (q : ℕ) (test : ℕ → Bool) (defs : List Defined) (s : Standing) (what : What) (answer : report.Answer) (dids : List Did) (s' : Standing) → LineFits defs s what answer dids s'
     → count_by (did_put q test) dids ≡ cond (enters_on q test what answer) 1 0
-line_puts q test defs s (Put r m) (Accepted id flowed acquired) dids s' fits = put_puts q test defs s r m fits.2 dids s' fits.4
+line_puts q test defs s (Put r m) (Accepted id flowed acquired) dids s' fits = put_puts q test defs s r m fits.2.0 dids s' fits.2.2
 line_puts q test defs s (Put r m) (Rejected depth) dids s' fits = none_put q test dids _ fits.did (refl, (refl, tt))
 line_puts q test defs s (Put r m) (Blocked depth) dids s' fits = none_put q test dids _ fits.did (refl, (refl, tt))
 line_puts q test defs s (Take d) Closed dids s' fits = none_put q test dids _ fits.1.did tt

@@ -85,7 +85,7 @@ stays : (c : ℕ) (s s' t : Standing) → s' ≡ t → t.seats ≡ s.seats → G
 stays c s s' t is same = same_seats c s.seats s'.seats (ap (λ (z : Standing). z.seats) is ∙ same)
 
 line_serves : (defs : List Defined) (s : Standing) (what : What) (answer : Answer) (dids : List Did) (s' : Standing) → LineFits defs s what answer dids s' → (c : ℕ) → Grew c (served_by c what answer) (seat_at s.seats c) (seat_at s'.seats c)
-line_serves defs s (Put q m) (Accepted id flowed acquired) dids s' fits c = stays c s s' _ fits.4.leaves refl
+line_serves defs s (Put q m) (Accepted id flowed acquired) dids s' fits c = stays c s s' _ fits.2.2.leaves refl
 line_serves defs s (Put q m) (Rejected depth) dids s' fits c = stays c s s' _ fits.leaves refl
 line_serves defs s (Put q m) (Blocked depth) dids s' fits c = stays c s s' _ fits.leaves refl
 line_serves defs s (Take d) Closed dids s' fits c = stays c s s' s fits.1.same refl

@@ -50,9 +50,10 @@ first_is = (
   (
     refl,
     refl,
-    [],
-    refl,
-    record {
+    (
+      [],
+      refl,
+      record {
       asks = record { def = queue_q; defined = refl; slip = slip; fits = slip_is; depth = record { entries = 0; bytes = 0 }; was = false; before = refl; now = false; verdict = refl };
       row = 0;
       displaced = None;
@@ -65,7 +66,8 @@ first_is = (
       all = refl;
       did = refl;
       leaves = refl;
-    },
+      },
+    ),
   ),
   (
     _,
