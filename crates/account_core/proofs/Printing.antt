@@ -205,7 +205,7 @@ logs_named queues actors [] (s ∷ stories) each tells = absurd tells
 logs_named queues actors (log ∷ logs) [] each tells = absurd tells
 logs_named queues actors (log ∷ logs) (s ∷ stories) each tells = (
   subst (λ (drops : List Dropped). All (FitsLine queues actors drops) log.lines.items) (sym tells.2)
-  (subst (λ (lines : List (ℕ × report.Answer)). All (FitsLine queues actors s.end.drops) lines) (sym tells.1) (All-from_recursion (FitsLine queues actors s.end.drops) (told s.ops s.answers) (each 0 s refl))),
+      (subst (λ (lines : List (ℕ × report.Answer)). All (FitsLine queues actors s.end.drops) lines) (sym tells.1) (All-from_recursion (FitsLine queues actors s.end.drops) (told s.ops s.answers) (each 0 s refl))),
   logs_named queues actors logs stories (λ i t there. each (suc i) t there) tells.3,
 )
 

@@ -54,18 +54,18 @@ first_is = (
       [],
       refl,
       record {
-      asks = record { def = queue_q; defined = refl; slip = slip; fits = slip_is; depth = record { entries = 0; bytes = 0 }; was = false; before = refl; now = false; verdict = refl };
-      row = 0;
-      displaced = None;
-      older = [];
-      older_dids = [];
-      drops_older = (refl, refl);
-      oldest = [];
-      oldest_dids = [];
-      trims = (refl, refl);
-      all = refl;
-      did = refl;
-      leaves = refl;
+        asks = record { def = queue_q; defined = refl; slip = slip; fits = slip_is; depth = record { entries = 0; bytes = 0 }; was = false; before = refl; now = false; verdict = refl };
+        row = 0;
+        displaced = None;
+        older = [];
+        older_dids = [];
+        drops_older = (refl, refl);
+        oldest = [];
+        oldest_dids = [];
+        trims = (refl, refl);
+        all = refl;
+        did = refl;
+        leaves = refl;
       },
     ),
   ),

@@ -1,5 +1,5 @@
 -- how many messages lines put to a queue, how many of them were admitted, and how many of its rows have an id
-use Rattle.std.specs.Prelude.{ℕ, ◌+◌, Bool, false, ◌&&◌, ◌==◌, if◌then◌else◌, List, [], ◌∷◌, map, sum_by}
+use Rattle.std.specs.Prelude.{ℕ, ◌+◌, Bool, false, ◌&&◌, ◌==◌, if◌then◌else◌, List, ◌∷◌, map, sum_by}
 use Rattle.std.specs.List.{count_by}
 use Rattle.queue_model.specs.declared.rows.Row.{Row}
 use Rattle.script_read.specs.Allowed.{ops_in}
