@@ -13,6 +13,7 @@ pub mod Following
 pub mod Closing
 pub mod Putting
 pub mod Settled
+pub mod Gone
 pub mod EntryCounts
 pub mod Naming
 pub mod Printing

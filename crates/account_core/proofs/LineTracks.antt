@@ -23,8 +23,9 @@ use Rattle.queue_model.specs.declared.rows.Slip.{Slip}
 use Rattle.overflow_core.specs.Limits.{is_ring}
 use Rattle.line_core.specs.Fits.{Did, On, Standing, DropsOlder, LineFits, LinesFit, Puts, Trims, TrimsRing, cargo_of, delivered, drop, fresh, in_hands, left_hand, let_go, lock_first, locked_hand, tried, unlock_of, unlocks}
 use Rattle.line_core.specs.Hands.{Hand, gained, hand, lost, replaced, without}
+use Rattle.line_core.specs.Runs.{calls_on}
 use Rattle.account_core.proofs.Acting.{on_row, touch}
-use Rattle.account_core.proofs.Dropping.{all_join}
+use Rattle.account_core.proofs.Dropping.{all_join, all_parts}
 use Rattle.account_core.proofs.Handing.{In, gained_moves, is_itself, lost_moves, meant_in, replaced_moves}
 use Rattle.account_core.proofs.Tracking.{AimsAt, Ends, HasRow, IdsApart, Tracks, dequeues, did_hit, did_last, dids_last, last_before, last_behind, locks, tracks_on, tracks_quiet}
 
@@ -34,8 +35,21 @@ use Rattle.account_core.proofs.Tracking.{AimsAt, Ends, HasRow, IdsApart, Tracks,
 abbrev pub Known : Queue → Call → Answer → Type 0
 Known all call answer = (r : ℕ) (load : Load) → gains call answer ≡ Some (r, load) → HasRow all r load.id
 
+-- the same of a call on any queue, if it is on queue q
+abbrev pub DidIs : ℕ → (Call → Answer → Type 0) → Did → Type 0
+DidIs q P (On s call answer) = s ≡ q → P call answer
+
 abbrev pub DidKnown : ℕ → Queue → Did → Type 0
-DidKnown q all (On s call answer) = s ≡ q → Known all call answer
+DidKnown q all = DidIs q (Known all)
+
+-- what is so of the calls on a queue is so of them among all calls
+pub dids_each : (q : ℕ) (P : Call → Answer → Type 0) (ds : List Did) → AllByRecursion (λ c. P c.0 c.1) (calls_on q ds) → AllByRecursion (DidIs q P) ds
+dids_each q P [] each = tt
+dids_each q P (On s call answer ∷ ds) each = by_test (nat_eq s q) refl each (dids_each q P ds) where
+  by_test : (b : Bool) → nat_eq s q ≡ b → AllByRecursion (λ c. P c.0 c.1) (cond b ((call, answer) ∷ calls_on q ds) (calls_on q ds))
+      → (AllByRecursion (λ c. P c.0 c.1) (calls_on q ds) → AllByRecursion (DidIs q P) ds) → AllByRecursion (DidIs q P) (On s call answer ∷ ds)
+  by_test true e each rest = (λ same. each.0, rest each.1)
+  by_test false e each rest = (λ same. let bad : true ≡ false = sym (eq-eqb s q same) ∙ e in absurd (cc), rest each)
 
 -- the call touches no row
 abbrev TouchesNone : Did → Type 0
@@ -183,11 +197,6 @@ module _ (q : ℕ) (all : Queue) (before : List Did) where
       (λ e. ends_free (Some n) (dids_last q k.row (before ++ ds)) a (one_last k.queue k.row [] (CallUnlock k.row load) IsDone a e (row_hit k.row a)) refl refl)
 
 -- Puts
-
--- what holds of two lists in a row holds of each
-pub all_parts : {X : Type 0} (P : X → Type 0) (xs ys : List X) → AllByRecursion P (xs ++ ys) → AllByRecursion P xs × AllByRecursion P ys
-all_parts P [] ys all = (tt, all)
-all_parts P (x ∷ xs) ys all = let rest = all_parts P xs ys all.1 in ((all.0, rest.0), rest.1)
 
 -- hands without the entries of two lists, one after the other
 let_go_append : (xs ys : List Dropped) (hands : List Hand) → let_go (xs ++ ys) hands ≡ let_go ys (let_go xs hands)

@@ -1,5 +1,5 @@
 -- what is told of a phase of allowed lines can be printed
-use Rattle.std.proofs.Common.{◌≡◌, ℕ, zero, suc, ◌+◌, ◌-◌, ◌*◌, ◌^◌, ◌<◌, ◌≤◌, nat_eq, Bool, true, false, cond, Option, Some, None, List, [], ◌∷◌, ◌++◌, filter, length, map, slice_get, refl, sym, ap, ◌∙◌, subst, ⊎_elim, append-nil, append_assoc, eq-eqb, eqb-true, arith, All}
+use Rattle.std.proofs.Common.{◌≡◌, ℕ, zero, suc, ◌+◌, ◌-◌, ◌*◌, ◌^◌, ◌<◌, ◌≤◌, nat_eq, Bool, true, false, cond, Option, Some, None, List, [], ◌∷◌, ◌++◌, filter, length, map, slice_get, refl, sym, ap, ◌∙◌, subst, ⊎_elim, eq-eqb, eqb-true, arith, All}
 use Rattle.std.proofs.lemmas.List.{length-append, length-map}
 use Rattle.std.proofs.lemmas.Option.{slice_get_cases}
 use Rattle.std.proofs.lemmas.List.Elements.{All-drop, All-from_recursion, All-take}
@@ -15,6 +15,7 @@ use Rattle.queue_model.proofs.KeyedLemmas.{find_passes, sum_by-le-times}
 use Rattle.queue_model.proofs.SoundSteps.{sound_after, sound_opening}
 use Rattle.queue_model.proofs.Prefixes.{prefix_self}
 use Rattle.acts_core.specs.Rest.{Rests}
+use Rattle.message_core.specs.Spelling.{Content}
 use Rattle.defs_read.specs.Defined.{Defined}
 use Rattle.script_read.specs.Allowed.{HasOwnOps, IsAllowedPhase, IsDefined, IsOpOf}
 use Rattle.script_read.specs.Phases.{Actors}
@@ -42,10 +43,9 @@ use Rattle.account_core.specs.Phases.{AllOpen, IsPhase}
 use Rattle.account_core.specs.Played.{IsByActor, IsPlayed, Played, rest_of}
 use Rattle.account_core.specs.Stories.{Story, calls_of, told}
 use Rattle.account_core.specs.Texts.{LogsTell, RestsTell, actor_names, holder_of, queue_names, resting, resting_in}
-use Rattle.account_core.proofs.Dropping.{IsFrom, all_join, puts_from}
+use Rattle.account_core.proofs.Dropping.{DropMore, IsFrom, all_parts, lines_drop, puts_from}
 use Rattle.account_core.proofs.EntryCounts.{all_entries, entries_le, sum_map}
 use Rattle.account_core.proofs.Handing.{in_filter, get_in}
-use Rattle.account_core.proofs.LineTracks.{all_parts}
 use Rattle.account_core.proofs.Naming.{CallNamed, chain_named, rows_found, state_named}
 use Rattle.account_core.proofs.Tracking.{of_this}
 
@@ -71,72 +71,30 @@ meant_of : (q : ℕ) (named : Option ℕ) (hands : List Hand) (k : Hand) → mea
 meant_of q (Some id) hands k is = (of_this q id k (find_passes (is_this q id) hands k is)).0
 meant_of q None hands k is = eqb-true k.queue q (in_filter (is_of q) k hands (get_in k (filter (is_of q) hands) (length (filter (is_of q) hands) - 1) is)).1
 
--- Drops
-
--- what a line drops stands behind what was dropped before, and is of queues that have names
-record DropsMore (n : ℕ) (old new : List Dropped) : Type 0 where
-  own : List Dropped
-  all : new ≡ old ++ own
-  named : AllByRecursion (λ x. x.queue < n) own
-
--- a line that drops nothing
-drops_none : (n : ℕ) (s s' t : Standing) → s' ≡ t → t.drops ≡ s.drops → DropsMore n s.drops s'.drops
-drops_none n s s' t is same = record { own = []; all = ap (λ (z : Standing). z.drops) is ∙ same ∙ sym (append-nil s.drops); named = tt }
-
--- drops after drops
-drops_then : (n : ℕ) (a b c : List Dropped) → DropsMore n a b → DropsMore n b c → DropsMore n a c
-drops_then n a b c first rest = record {
-  own = first.own ++ rest.own;
-  all = rest.all ∙ ap (λ (xs : List Dropped). xs ++ rest.own) first.all ∙ append_assoc a first.own rest.own;
-  named = all_join (λ (x : Dropped). x.queue < n) first.own rest.own first.named rest.named;
-}
+-- Answers with names. The drops are those of an actor in the end.
 
 -- entries of queue q, which has a name
 from_named : (n q : ℕ) (xs : List Dropped) → q < n → AllByRecursion (IsFrom q) xs → AllByRecursion (λ x. x.queue < n) xs
 from_named n q [] within from = tt
 from_named n q (x ∷ xs) within from = (subst (λ (k : ℕ). k < n) (sym from.0) within, from_named n q xs within from.1)
 
--- what each line drops
-line_drops : (n : ℕ) (defs : List Defined) (actor : List ℕ) (s : Standing) (what : What) (answer : report.Answer) (dids : List Did) (s' : Standing) → LineFits defs s what answer dids s' → n ≡ length defs → IsDefined defs actor what → DropsMore n s.drops s'.drops
-line_drops n defs actor s (Put q m) (Accepted id flowed acquired) dids s' fits many defined =
-    record { own = fits.2.0; all = ap (λ (z : Standing). z.drops) fits.2.2.leaves; named = from_named n q fits.2.0 (omega (arith, many, defined)) (puts_from defs s q m fits.2.0 dids s' fits.2.2) }
-line_drops n defs actor s (Put q m) (Rejected depth) dids s' fits many defined = drops_none n s s' _ fits.leaves refl
-line_drops n defs actor s (Put q m) (Blocked depth) dids s' fits many defined = drops_none n s s' _ fits.leaves refl
-line_drops n defs actor s (Take c) Closed dids s' fits many defined = drops_none n s s' s fits.1.same refl
-line_drops n defs actor s (Take c) NoCredit dids s' fits many defined = drops_none n s s' s fits.1.same refl
-line_drops n defs actor s (Take c) Empty dids s' fits many defined = drops_none n s s' s fits.same refl
-line_drops n defs actor s (Take c) (Got id d) dids s' fits many defined = drops_none n s s' _ fits.leaves refl
-line_drops n defs actor s (Close c) Closed dids s' fits many defined = drops_none n s s' _ fits.1 refl
-line_drops n defs actor s (Ack q named) (Acked id) dids s' fits many defined = drops_none n s s' _ fits.fact.does.leaves refl
-line_drops n defs actor s (Ack q named) (Stolen state) dids s' fits many defined = drops_none n s s' _ fits.fact.1.leaves refl
-line_drops n defs actor s (Ack q named) NotHeld dids s' fits many defined = drops_none n s s' s fits.1.same refl
-line_drops n defs actor s (Release q named) (Released id) dids s' fits many defined = drops_none n s s' _ fits.fact.does.leaves refl
-line_drops n defs actor s (Release q named) (Outdated id) dids s' fits many defined = drops_none n s s' _ fits.fact.does.leaves refl
-line_drops n defs actor s (Release q named) (Stolen state) dids s' fits many defined = drops_none n s s' _ fits.fact.1.leaves refl
-line_drops n defs actor s (Release q named) NotHeld dids s' fits many defined = drops_none n s s' s fits.1.same refl
-line_drops n defs actor s (Lock q named) (Relocked id) dids s' fits many defined = drops_none n s s' _ fits.fact.does.leaves refl
-line_drops n defs actor s (Lock q named) (Stolen state) dids s' fits many defined = drops_none n s s' _ fits.fact.1.leaves refl
-line_drops n defs actor s (Lock q named) NotHeld dids s' fits many defined = drops_none n s s' s fits.1.same refl
-line_drops n defs actor s (Unlock q named) (LeftUnlocked id) dids s' fits many defined = drops_none n s s' _ fits.fact.does.leaves refl
-line_drops n defs actor s (Unlock q named) NotHeld dids s' fits many defined = drops_none n s s' s fits.1.same refl
-line_drops n defs actor s (Steal q id) (Stole stolen) dids s' fits many defined = drops_none n s s' _ fits.1.does.leaves refl
-line_drops n defs actor s (Steal q id) (NotStealable state) dids s' fits many defined = drops_none n s s' _ fits.1.leaves refl
-line_drops n defs actor s (Steal q id) (Moved state) dids s' fits many defined = drops_none n s s' _ fits.1.leaves refl
-line_drops n defs actor s (Steal q id) Absent dids s' fits many defined = drops_none n s s' _ fits.leaves refl
-line_drops n defs actor s what answer dids s' fits many defined = absurd fits
+-- a queue to which a line puts has a name
+put_within : (defs : List Defined) (actor : List ℕ) (what : What) (q : ℕ) (m : Content) → what ≡ Put q m → IsDefined defs actor what → q < length defs
+put_within defs actor what q m is defined = subst (IsDefined defs actor) is defined
 
--- and what many do
-lines_drop : (n : ℕ) (defs : List Defined) (journal : Bool) (actor : List ℕ) (s : Standing) (ops : List Op) (answers : List report.Answer) (dids : List Did) (s' : Standing) → LinesFit defs s ops answers dids s' → n ≡ length defs
-    → AllByRecursion (IsOpOf defs journal actor) ops → DropsMore n s.drops s'.drops
-lines_drop n defs journal actor s [] [] dids s' fits many own_ops = drops_none n s s' s fits.1 refl
-lines_drop n defs journal actor s [] (a ∷ answers) dids s' fits many own_ops = absurd fits
-lines_drop n defs journal actor s (op ∷ ops) [] dids s' fits many own_ops = absurd fits
-lines_drop n defs journal actor s (op ∷ ops) (a ∷ answers) dids s' fits many own_ops =
-    drops_then n s.drops fits.1.drops s'.drops
-    (line_drops n defs actor s op.what a fits.0 fits.1 fits.3 many own_ops.0.defined)
-    (lines_drop n defs journal actor fits.1 ops answers fits.2 s' fits.4 many own_ops.1)
+-- nothing is asked of calls
+all_free : (ds : List Did) → AllByRecursion (λ d. Unit {0}) ds
+all_free [] = tt
+all_free (d ∷ ds) = (tt, all_free ds)
 
--- Answers with names. The drops are those of an actor in the end.
+-- what lines of an actor drop is of queues that have names
+lines_drop_named : (n : ℕ) (defs : List Defined) (journal : Bool) (actor : List ℕ) (s : Standing) (ops : List Op) (answers : List report.Answer) (dids : List Did) (s' : Standing) → LinesFit defs s ops answers dids s' → n ≡ length defs
+    → AllByRecursion (IsOpOf defs journal actor) ops → DropMore (λ x. x.queue < n) answers s.drops s'.drops
+lines_drop_named n defs journal actor s ops answers dids s' fits many own_ops = lines_drop (λ (x : Dropped). x.queue < n) (IsOpOf defs journal actor) (λ d. Unit {0}) defs
+    (λ op q m own t ds t' of free is puts.
+    let within = put_within defs actor op.what q m is of.defined in
+    from_named n q own (omega (arith, many, within)) (puts_from defs t q m own ds t' puts))
+    s ops answers dids s' fits own_ops (all_free dids)
 
 module _ (queues : List (List ℕ)) (n : ℕ) (actors : List (List ℕ)) (drops : List Dropped) (all_named : All (HasQueue queues) drops) where
   -- a line that found its entry taken
@@ -191,7 +149,7 @@ module _ (queues : List (List ℕ)) (n : ℕ) (actors : List (List ℕ)) (drops 
   lines_named defs journal actor s (op ∷ ops) [] dids s' fits many own_ops each few = absurd fits
   lines_named defs journal actor s (op ∷ ops) (a ∷ answers) dids s' fits many own_ops each few =
       let parts = all_parts (DidNamed n actors) fits.0 fits.2 (subst (AllByRecursion (DidNamed n actors)) fits.5 each) in
-      let more = lines_drop n defs journal actor fits.1 ops answers fits.2 s' fits.4 many own_ops.1 in
+      let more = lines_drop_named n defs journal actor fits.1 ops answers fits.2 s' fits.4 many own_ops.1 in
       let longer : length s'.drops ≡ length fits.1.drops + length more.own = ap length more.all ∙ length-append fits.1.drops more.own in (
         line_named defs actor s op.what a fits.0 fits.1 fits.3 many own_ops.0.defined parts.0 (omega (arith, longer, few)),
         lines_named defs journal actor fits.1 ops answers fits.2 s' fits.4 many own_ops.1 parts.1 few,
@@ -358,10 +316,10 @@ states_named defs rows actors journal a seats seats' logs rests allowed phase te
   story_named i s there =
       let own_ops = own_lines defs journal a.stories (subst (AllByRecursion (HasOwnOps defs journal)) (sym phase.lines) allowed.own) i s there in
       let dids = all_parts (DidNamed n names) s.dids (unlocks s.end.hands) (dids_named n names (calls_of s) (calls_named i s there)) in
-      let dropped = lines_drop n defs journal s.name (begins defs s.seats) s.ops s.answers s.dids s.end (phase.stories i s there) open_all.0 own_ops in
+      let dropped = lines_drop_named n defs journal s.name (begins defs s.seats) s.ops s.answers s.dids s.end (phase.stories i s there) open_all.0 own_ops in
       let long : n ≡ length (queue_names defs) = open_all.0 ∙ sym (length-map defs (λ (d : Defined). d.name)) in
       let all_dropped : All (HasQueue (queue_names defs)) s.end.drops =
       subst (All (HasQueue (queue_names defs))) (sym dropped.all)
-      (subst (λ (k : ℕ). All (λ (x : Dropped). x.queue < k) dropped.own) long (All-from_recursion (λ (x : Dropped). x.queue < n) dropped.own dropped.named))
+      (subst (λ (k : ℕ). All (λ (x : Dropped). x.queue < k) dropped.own) long (All-from_recursion (λ (x : Dropped). x.queue < n) dropped.own dropped.each))
       in
       lines_named (queue_names defs) n names s.end.drops all_dropped defs journal s.name (begins defs s.seats) s.ops s.answers s.dids s.end (phase.stories i s there) open_all.0 own_ops dids.0 (omega arith)

@@ -1,5 +1,6 @@
 //! Laws on accounts. No program needs to call them: each has its laws as its contract.
 ghost use Rattle.account_core.specs.Laws.{AccountTold, CarryFrees, CarryKeeps, ClosedPlayed, DequeuedOnce, GotCounts, LogTold, OneState, PhasesAppend, TextAppend};
+ghost use Rattle.account_core.specs.Dropping.{DropsGone, DropsTold};
 ghost use Rattle.account_core.specs.Last.{LastTouch};
 ghost use Rattle.account_core.specs.Runs.{NoneRan};
 ghost use Rattle.account_core.specs.Served.{StoryServes};
@@ -47,6 +48,12 @@ pub fn counts()
 /// What holds of each row of a queue when all passes were joined.
 pub fn rests()
     ensures { Settles }
+{}
+
+/// What the answers of an actor's lines tell of the entries that its puts dropped.
+pub fn drops()
+    ensures told { DropsTold }
+    ensures gone { DropsGone }
 {}
 
 /// What is told of a phase can be printed.
