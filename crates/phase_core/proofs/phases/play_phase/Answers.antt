@@ -13,10 +13,10 @@ use Rattle.phase_core.proofs.Accounts.{are_last, opens_now, plays_phase}
 use Rattle.account_core.proofs.Closing.{closed_played}
 use Rattle.account_core.proofs.EntryCounts.{opens_count}
 use Rattle.account_core.proofs.Printing.{states_named}
-use Rattle.account_core.proofs.Putting.{rows_count}
+use Rattle.account_core.proofs.Putting.{few_entered, rows_count}
 use Rattle.account_core.proofs.Serving.{story_serves}
 use Rattle.account_core.proofs.Settled.{settles}
-use Rattle.phase_core.proofs.Opening.{all_listed, bosses_many, has_room, may_cast, unused_of}
+use Rattle.phase_core.proofs.Opening.{are_of_kinds, bosses_many, has_room, may_cast, unused_of}
 use Rattle.phase_core.proofs.Places.{on_err}
 use Rattle.phase_core.proofs.Seating.{has_for, same_seats, same_target, seats_go}
 use Rattle.phase_core.proofs.phases.play_phase.Goals as goal
@@ -91,9 +91,13 @@ play_actors-requires-clause-as_many g c κs within =
     let split = bosses_many c.in_ok-opened.opened.bosses.items c.make_actors.new.bosses.items (vec_len c.in_ok-actors.actors + 1) c.in_ok-actors.ensures.bosses in
     ap length c.deref-3.ensures.value ∙ omega (arith, split, c.in_ok-opened.ensures.opened.as_many, c.in_ok-opened.ensures.opened.passes, c.make_actors.new.bosses.ok.0)
 
-pub play_actors-requires-clause-kind : goal.play_actors-requires-clause-kind
-play_actors-requires-clause-kind g c κs within =
-    rw c.deref-3.ensures.value (all_listed (queues_in c.args.defs.now) c.args.left.items c.deref.result.now c.in_ok-opened.opened.queues.items c.in_ok-opened.opened.bosses.items c.in_ok-opened.ensures.opened)
+pub play_actors-requires-clause-kinds : goal.play_actors-requires-clause-kinds
+play_actors-requires-clause-kinds g c κs within =
+    rw c.deref-3.ensures.value (are_of_kinds (queues_in c.args.defs.now) c.args.left.items c.deref.result.now c.in_ok-opened.opened.queues.items c.in_ok-opened.opened.bosses.items c.in_ok-opened.ensures.opened
+    (rows_left c.args.left.items) c.in_ok-opened.ensures.opens)
+
+pub play_actors-requires-clause-policies : goal.play_actors-requires-clause-policies
+play_actors-requires-clause-policies g c κs within = c.requires.policies
 
 pub play_actors-requires-clause-serve : goal.play_actors-requires-clause-serve
 play_actors-requires-clause-serve g c κs within = rw c.deref-3.ensures.value (rw c.deref-2.ensures.value at c.in_ok-actors.ensures.serve)
@@ -153,7 +157,7 @@ close_queues-requires-clause-last g c =
     let split = bosses_many opened begun (vec_len c.in_ok-actors.actors + 1) made.bosses in
     let many : length lasts ≡ length queues = omega (arith, played.joined.as_many, length-map lasts sight_in, length-map begun sight_in, split, ready.opened.passes, ready.opened.as_many) in
     let numbered : (q : ℕ) (s : Sight) → slice_get (map sight_in begun) q ≡ Some s → s.made ≡ length actors + 1 = λ q s at. (made.bosses.each q s at).made ∙ omega (arith, count, c.in_ok-actors.actors.ok.0) in
-    are_last defs c.args.left.items actors _ queues opened begun lasts _ _ _ many ready.opens made.bosses.openings numbered c.requires.once played settles rows_count opens_count
+    are_last defs c.args.left.items actors _ queues opened begun lasts _ _ _ many ready.opens made.bosses.openings numbered c.requires.once played settles rows_count few_entered opens_count
 
 pub close_queues-requires-clause-rests : goal.close_queues-requires-clause-rests
 close_queues-requires-clause-rests g c =
@@ -189,7 +193,7 @@ returns-clause-plays g c =
     let has = has_for c.in_ok-actors.actors.items (λ a. a.name) (λ a. lines_of a.jobs.items) (λ a. map (option_map (λ b. (goal.Target-dyn g (b.vtable, b.value)).seat b.value)) a.roster.slots) _ played.stories
     (played.lines ∙ sym made.lines) played.begun (λ i a at. (made.cast i a at).1.targets) in
     let go = seats_go defs false actors played.stories _ _ _ story_serves c.requires.phase played.lines played.fit has made.roster played.returned in
-    plays_phase defs c.args.left.items actors _ queues opened begun lasts _ _ _ many ready.opens made.bosses.openings numbered c.requires.once played settles rows_count opens_count closed_played states_named _ _ refl c.requires.phase go
+    plays_phase defs c.args.left.items actors _ queues opened begun lasts _ _ _ many ready.opens made.bosses.openings numbered c.requires.once played settles rows_count few_entered opens_count closed_played states_named _ _ refl c.requires.phase go
     (c.close_queues.ensures.told defs ready.names) c.close_queues.ensures.left
-    (c.close_queues.ensures.stay defs (rows_left c.args.left.items) (opens_now defs c.args.left.items actors _ queues opened begun lasts _ _ _ many ready.opens made.bosses.openings numbered c.requires.once played settles rows_count opens_count))
+    (c.close_queues.ensures.stay defs (rows_left c.args.left.items) (opens_now defs c.args.left.items actors _ queues opened begun lasts _ _ _ many ready.opens made.bosses.openings numbered c.requires.once played settles rows_count few_entered opens_count))
     c.close_queues.ensures.rows
