@@ -15,9 +15,6 @@ use Rattle.target_core.specs.Seats.{Seat, Seats, seat_at}
 use Rattle.defs_read.specs.Allowed.{AreAllowed}
 use Rattle.defs_read.specs.Defined.{Defined, consumers_in}
 use Rattle.defs_read.specs.declared.defs.ConsumerDef.{ConsumerDef}
-use Rattle.defs_read.specs.declared.defs.QueueKind.{QueueKind}
-use Rattle.defs_read.specs.declared.defs.QueueKind.TheVariants.{Standard, Priority, Sorted, LastValue}
-use Rattle.any_queue.specs.Parting.{IsOfLists}
 use Rattle.script_read.specs.Allowed.{HasConsumer, HasOwnOps, IsDefined, IsOpOf, ops_in}
 use Rattle.script_read.specs.Phases.{Actors}
 use Rattle.script_read.specs.declared.lines.Op.{Op}
