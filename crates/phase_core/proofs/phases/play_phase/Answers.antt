@@ -18,6 +18,7 @@ use Rattle.account_core.proofs.Serving.{story_serves}
 use Rattle.account_core.proofs.Settled.{settles}
 use Rattle.phase_core.proofs.Opening.{are_of_kinds, bosses_many, has_room, may_cast, unused_of}
 use Rattle.phase_core.proofs.Places.{on_err}
+use Rattle.phase_core.proofs.Rows.{lefts_many, opened_rows}
 use Rattle.phase_core.proofs.Seating.{has_for, same_seats, same_target, seats_go}
 use Rattle.phase_core.proofs.phases.play_phase.Goals as goal
 
@@ -82,6 +83,17 @@ pub make_actors-requires-clause-may : goal.make_actors-requires-clause-may
 make_actors-requires-clause-may g c =
     may_cast (queues_in c.args.defs.now) c.args.left.items c.deref.result.now c.in_ok-opened.opened.queues.items c.in_ok-opened.opened.bosses.items c.in_ok-opened.ensures.opened
     (rows_left c.args.left.items) (actors_in c.args.phase) c.in_ok-opened.ensures.opens (rw c.deref.ensures.value c.in_ok-puts.ensures.each)
+
+pub make_actors-requires-clause-rows : goal.make_actors-requires-clause-rows
+make_actors-requires-clause-rows g c =
+    let many = lefts_many (queues_in c.args.defs.now) c.args.left.items c.requires.stay in
+    let all = opened_rows (queues_in c.args.defs.now) c.args.left.items c.deref.result.now c.in_ok-opened.opened.queues.items c.in_ok-opened.opened.bosses.items c.in_ok-opened.ensures.opened many in
+    rw c.deref-2.ensures.value (rw c.as_slice.ensures.value at (rw c.as_slice-2.ensures.value at (rw c.deref.ensures.value at (omega (arith, all, c.rows_of-rows.ensures)))))
+
+pub rows_of-rows-requires-clause-queues : goal.rows_of-rows-requires-clause-queues
+rows_of-rows-requires-clause-queues g c =
+    let many = lefts_many (queues_in c.args.defs.now) c.args.left.items c.requires.stay in
+    rw c.as_slice.ensures.value (omega (arith, many, c.requires.allowed.few))
 
 pub returns-in_err-actors-clause-kept : goal.returns-in_err-actors-clause-kept
 returns-in_err-actors-clause-kept g c = search (rules, on_err, c.in_err-actors.ensures.kept)
