@@ -65,7 +65,8 @@ const LONG_3: &str = "{\"do\":\"put\",\"actor\":\"a\",\"queue\":\"q\",\"id\":3,\
 const LONG_5: &str = "{\"do\":\"put\",\"actor\":\"a\",\"queue\":\"q\",\"id\":5,\"body\":\"x\"}\n";
 
 // With one of 32 bytes.
-const LARGE_5: &str = "{\"do\":\"put\",\"actor\":\"a\",\"queue\":\"q\",\"id\":5,\"body\":\"0123456789abcdef0123456789abcdef\"}\n";
+const LARGE_5: &str =
+    "{\"do\":\"put\",\"actor\":\"a\",\"queue\":\"q\",\"id\":5,\"body\":\"0123456789abcdef0123456789abcdef\"}\n";
 
 const TAKE: &str = "{\"do\":\"take\",\"actor\":\"a\",\"consumer\":\"c\"}\n";
 

@@ -20,7 +20,7 @@ ghost use Rattle.workers_core.specs.Drops.{ServesPolicies, all_rows};
 ghost use Rattle.workers_core.specs.Phases.{MayDrop, MayRun, lines_of};
 ghost use Rattle.workers_core.specs.Ready.{AllServe};
 
-use crate::counting::puts_of;
+use crate::counting::{puts_of, rows_of};
 use crate::joining::join_actors;
 use acts_core::RestEntry;
 use any_queue::{AnyPass, AnyQueue};
@@ -124,6 +124,7 @@ pub fn play_phase<R: Threads + Wait + Clone + Send + Sync + Drop, G: Gate>(
     let Ok(mut logs) = Vec::with_capacity(alloc, phase.actors.len()) else {
         return Err(NoMemory);
     };
+    let rows = rows_of(left.as_slice(), puts.as_slice());
     let opened = open_queues(alloc, defs, left, &puts)?;
     let Opened {
         queues,
@@ -134,7 +135,7 @@ pub fn play_phase<R: Threads + Wait + Clone + Send + Sync + Drop, G: Gate>(
     let mut bosses = bosses;
     let mut rests = rests;
     let mut left = left;
-    let actors = make_actors(alloc, defs, phase, &queues, &mut bosses, roster)?;
+    let actors = make_actors(alloc, defs, phase, rows, &queues, &mut bosses, roster)?;
     play_actors(
         rt,
         defs,

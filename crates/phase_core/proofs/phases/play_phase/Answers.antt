@@ -1,4 +1,4 @@
-use Rattle.std.proofs.Common.{rules, ◌≡◌, ◌+◌, ℕ, false, Some, length, map, slice_get, vec_len, refl, sym, ap, ◌∙◌, arith}
+use Rattle.std.proofs.Common.{rules, ◌≡◌, ◌+◌, ◌≤◌, ℕ, false, Some, length, map, slice_get, vec_len, refl, sym, ap, ◌∙◌, arith}
 use Rattle.std.specs.Option.{option_map}
 use Rattle.std.proofs.lemmas.List.{length-map}
 use Rattle.acts_core.specs.Sight.{Sight}
@@ -6,7 +6,8 @@ use Rattle.defs_read.specs.Defined.{Defined, queues_in}
 use Rattle.script_read.specs.Allowed.{ops_in}
 use Rattle.script_read.specs.Phases.{actors_in}
 use Rattle.phase_text.specs.declared.logs.Rest.{Rest}
-use Rattle.any_queue.specs.Kinds.{sight_in}
+use Rattle.any_queue.specs.Kinds.{build_in, sight_in}
+use Rattle.workers_core.specs.Drops.{all_rows}
 use Rattle.workers_core.specs.Phases.{lines_of}
 use Rattle.phase_queues.specs.Left.{rows_left}
 use Rattle.phase_core.proofs.Accounts.{are_last, opens_now, plays_phase}
@@ -18,6 +19,7 @@ use Rattle.account_core.proofs.Serving.{story_serves}
 use Rattle.account_core.proofs.Settled.{settles}
 use Rattle.phase_core.proofs.Opening.{are_of_kinds, bosses_many, has_room, may_cast, unused_of}
 use Rattle.phase_core.proofs.Places.{on_err}
+use Rattle.phase_core.proofs.Rows.{lefts_many, opened_rows}
 use Rattle.phase_core.proofs.Seating.{has_for, same_seats, same_target, seats_go}
 use Rattle.phase_core.proofs.phases.play_phase.Goals as goal
 
@@ -82,6 +84,31 @@ pub make_actors-requires-clause-may : goal.make_actors-requires-clause-may
 make_actors-requires-clause-may g c =
     may_cast (queues_in c.args.defs.now) c.args.left.items c.deref.result.now c.in_ok-opened.opened.queues.items c.in_ok-opened.opened.bosses.items c.in_ok-opened.ensures.opened
     (rows_left c.args.left.items) (actors_in c.args.phase) c.in_ok-opened.ensures.opens (rw c.deref.ensures.value c.in_ok-puts.ensures.each)
+
+pub rows_of-rows-requires-clause-queues : goal.rows_of-rows-requires-clause-queues
+rows_of-rows-requires-clause-queues g c =
+    let many = lefts_many (queues_in c.args.defs.now) c.args.left.items c.requires.stay in
+    rw c.as_slice.ensures.value (omega (arith, many, c.requires.allowed.few))
+
+pub rows_of-rows-requires-clause-as_many : goal.rows_of-rows-requires-clause-as_many
+rows_of-rows-requires-clause-as_many g c =
+    let many = lefts_many (queues_in c.args.defs.now) c.args.left.items c.requires.stay in
+    let counted : length c.in_ok-puts.puts.items ≡ length c.args.left.items = omega (arith, many, c.in_ok-puts.ensures.as_many, c.in_ok-puts.puts.ok.0) in
+    ap length c.as_slice-2.ensures.value ∙ counted ∙ sym (ap length c.as_slice.ensures.value)
+
+pub rows_of-rows-requires-clause-room : goal.rows_of-rows-requires-clause-room
+rows_of-rows-requires-clause-room g c =
+    let long : length c.in_ok-puts.puts.items ≡ length (queues_in c.args.defs.now) = omega (arith, c.in_ok-puts.ensures.as_many, c.in_ok-puts.puts.ok.0) in
+    let room = has_room c.args.left.items (ops_in (actors_in c.args.phase)) c.in_ok-puts.puts.items (length (queues_in c.args.defs.now)) long c.in_ok-puts.ensures.each c.requires.few in
+    rw c.as_slice.ensures.value (rw c.as_slice-2.ensures.value room)
+
+pub make_actors-requires-clause-rows : goal.make_actors-requires-clause-rows
+make_actors-requires-clause-rows g c =
+    let many = lefts_many (queues_in c.args.defs.now) c.args.left.items c.requires.stay in
+    let all = rw c.deref.ensures.value at (opened_rows (queues_in c.args.defs.now) c.args.left.items c.deref.result.now c.in_ok-opened.opened.queues.items c.in_ok-opened.opened.bosses.items c.in_ok-opened.ensures.opened many) in
+    let counted = rw c.as_slice.ensures.value at (rw c.as_slice-2.ensures.value at c.rows_of-rows.ensures) in
+    let within : all_rows (map build_in c.in_ok-opened.opened.queues.items) ≤ c.rows_of-rows.result = omega (arith, all, counted) in
+    rw c.deref-2.ensures.value within
 
 pub returns-in_err-actors-clause-kept : goal.returns-in_err-actors-clause-kept
 returns-in_err-actors-clause-kept g c = search (rules, on_err, c.in_err-actors.ensures.kept)
