@@ -4,6 +4,7 @@ pub mod Acting
 pub mod RowCounts
 pub mod Handing
 pub mod Tracking
+pub mod Dropping
 pub mod LineTracks
 pub mod Telling
 pub mod Counting
@@ -12,6 +13,7 @@ pub mod Following
 pub mod Closing
 pub mod Putting
 pub mod Settled
+pub mod Gone
 pub mod EntryCounts
 pub mod Naming
 pub mod Printing

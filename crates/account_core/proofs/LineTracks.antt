@@ -3,21 +3,29 @@ use Rattle.std.proofs.Common.{◌≡◌, ◌⊎◌, inl, inr, ℕ, ◌==◌, nat
 use Rattle.std.specs.List.{AllByRecursion}
 use Rattle.queue_model.specs.declared.deeds.Act.{Act}
 use Rattle.queue_model.specs.declared.deeds.Act.TheVariants as acts
+use Rattle.queue_model.specs.declared.queues.Depth.{Depth}
+use Rattle.queue_model.specs.declared.queues.Limits.{Limits}
 use Rattle.queue_model.specs.declared.queues.Queue.{Queue}
 use Rattle.acts_core.specs.Asked.{or_else}
-use Rattle.acts_core.specs.Calls.{Call, CallRelease, CallLock, CallUnlock, CallSteal, CallNext, CallDequeue, CallFind, Answer, IsGot, IsFreed, IsReleased, IsLocked, IsStolen, IsFound, HasStolen, IsDone}
+use Rattle.acts_core.specs.Calls.{Call, CallDepth, CallReserve, CallPut, CallOldest, CallRelease, CallLock, CallUnlock, CallSteal, CallNext, CallDequeue, CallFind, Answer, IsDepth, IsAt, IsGot, IsFreed, IsReleased, IsOutdated, IsLocked, IsStolen, IsFound, HasStolen, IsDone}
 use Rattle.acts_core.specs.Hands.{gained as gains}
 use Rattle.acts_core.specs.Load.{Load}
+use Rattle.message_core.specs.Spelling.{Content}
 use Rattle.defs_read.specs.Defined.{Defined}
 use Rattle.script_read.specs.declared.lines.Op.{Op}
 use Rattle.script_read.specs.declared.lines.What.{What}
 use Rattle.script_read.specs.declared.lines.What.TheVariants.{Put, Take, Close, Ack, Release, Lock, Unlock, Steal}
 use Rattle.report_core.specs.declared.answers.Answer as report
-use Rattle.report_core.specs.declared.answers.Answer.TheVariants.{Accepted, Got, Empty, NoCredit, Closed, Acked, NotHeld, Stolen, Released, Unlocked, Locked, Stole, NotStealable, Moved, Absent}
+use Rattle.report_core.specs.declared.answers.Answer.TheVariants.{Accepted, Rejected, Blocked, Got, Empty, NoCredit, Closed, Acked, NotHeld, Stolen, Released, Outdated, Unlocked, Locked, Stole, NotStealable, Moved, Absent}
+use Rattle.report_core.specs.declared.answers.Dropped.{Dropped}
 use Rattle.queue_model.specs.declared.rows.RowState.{RowState}
-use Rattle.line_core.specs.Fits.{Did, On, Standing, LineFits, LinesFit, cargo_of, delivered, drop, in_hands, left_hand, lock_first, locked_hand, tried, unlock_of, unlocks}
-use Rattle.line_core.specs.Hands.{Hand, gained, lost, replaced}
+use Rattle.queue_model.specs.declared.rows.Slip.{Slip}
+use Rattle.overflow_core.specs.Limits.{is_ring}
+use Rattle.line_core.specs.Fits.{Did, On, Standing, DropsOlder, LineFits, LinesFit, Puts, Trims, TrimsRing, cargo_of, delivered, drop, fresh, in_hands, left_hand, let_go, lock_first, locked_hand, tried, unlock_of, unlocks}
+use Rattle.line_core.specs.Hands.{Hand, gained, hand, lost, replaced, without}
+use Rattle.line_core.specs.Runs.{calls_on}
 use Rattle.account_core.proofs.Acting.{on_row, touch}
+use Rattle.account_core.proofs.Dropping.{all_join, all_parts}
 use Rattle.account_core.proofs.Handing.{In, gained_moves, is_itself, lost_moves, meant_in, replaced_moves}
 use Rattle.account_core.proofs.Tracking.{AimsAt, Ends, HasRow, IdsApart, Tracks, dequeues, did_hit, did_last, dids_last, last_before, last_behind, locks, tracks_on, tracks_quiet}
 
@@ -27,8 +35,21 @@ use Rattle.account_core.proofs.Tracking.{AimsAt, Ends, HasRow, IdsApart, Tracks,
 abbrev pub Known : Queue → Call → Answer → Type 0
 Known all call answer = (r : ℕ) (load : Load) → gains call answer ≡ Some (r, load) → HasRow all r load.id
 
+-- the same of a call on any queue, if it is on queue q
+abbrev pub DidIs : ℕ → (Call → Answer → Type 0) → Did → Type 0
+DidIs q P (On s call answer) = s ≡ q → P call answer
+
 abbrev pub DidKnown : ℕ → Queue → Did → Type 0
-DidKnown q all (On s call answer) = s ≡ q → Known all call answer
+DidKnown q all = DidIs q (Known all)
+
+-- what is so of the calls on a queue is so of them among all calls
+pub dids_each : (q : ℕ) (P : Call → Answer → Type 0) (ds : List Did) → AllByRecursion (λ c. P c.0 c.1) (calls_on q ds) → AllByRecursion (DidIs q P) ds
+dids_each q P [] each = tt
+dids_each q P (On s call answer ∷ ds) each = by_test (nat_eq s q) refl each (dids_each q P ds) where
+  by_test : (b : Bool) → nat_eq s q ≡ b → AllByRecursion (λ c. P c.0 c.1) (cond b ((call, answer) ∷ calls_on q ds) (calls_on q ds))
+      → (AllByRecursion (λ c. P c.0 c.1) (calls_on q ds) → AllByRecursion (DidIs q P) ds) → AllByRecursion (DidIs q P) (On s call answer ∷ ds)
+  by_test true e each rest = (λ same. each.0, rest each.1)
+  by_test false e each rest = (λ same. let bad : true ≡ false = sym (eq-eqb s q same) ∙ e in absurd (cc), rest each)
 
 -- the call touches no row
 abbrev TouchesNone : Did → Type 0
@@ -122,6 +143,26 @@ module _ (q : ℕ) (all : Queue) (before : List Did) where
       tracks_on q k.queue k.row k.id all None before ds hands (lost k hands) apart t (lost_moves k hands) (lock_aims k load last ((refl, λ s. refl), tt)) tt (λ e. t.rows k there e)
       (λ e. ends_free None (dids_last q k.row (before ++ ds)) a (one_last k.queue k.row (lock_first k load) (CallRelease k.row (cargo_of k load)) (IsReleased mask) a e (row_hit k.row a)) refl refl)
 
+  -- an entry that goes: it was acquired, and is dropped
+  drops : (p r id size : ℕ) (front : List Did) (hands : List Hand) → IdsApart all → AllByRecursion (AimsAt p r) front → (p ≡ q → HasRow all r id) → Tracks q all before hands → Tracks q all (before ++ (front ++ drop p r size)) (without p id hands)
+  drops p r id size front hands apart aims has t =
+      let ds : List Did = front ++ drop p r size in
+      tracks_on q p r id all None before ds hands (without p id hands) apart t (lost_moves (hand p r id None) hands) (all_join (AimsAt p r) front (drop p r size) aims ((refl, λ s. refl), ((refl, λ s. refl), tt))) tt has
+      (λ e. ends_free None (dids_last q r (before ++ ds)) (acts.Del r)
+      (last_behind q r before ds (acts.Del r)
+      (last_behind q r front (drop p r size) (acts.Del r)
+      (ap (λ (o : Option Act). or_else o (did_last q r (On p (CallDequeue r) (IsFreed size)))) (did_hit p r q r (acts.Del r) e refl refl))))
+      refl refl)
+
+  -- a release of an entry that is dropped
+  outdates : (k : Hand) (load : Load) (size : ℕ) (hands : List Hand) → IdsApart all → In k hands → Tracks q all before hands
+      → Tracks q all (before ++ (lock_first k load ++ (On k.queue (CallRelease k.row (cargo_of k load)) (IsOutdated (cargo_of k load)) ∷ drop k.queue k.row size))) (lost k hands)
+  outdates k load size hands apart there t =
+      let told : List Did = On k.queue (CallRelease k.row (cargo_of k load)) (IsOutdated (cargo_of k load)) ∷ [] in
+      let front : List Did = lock_first k load ++ told in
+      subst (λ (ds : List Did). Tracks q all (before ++ ds) (lost k hands)) (append_assoc (lock_first k load) told (drop k.queue k.row size))
+      (drops k.queue k.row k.id size front hands apart (lock_aims k load told ((refl, tt), tt)) (λ e. t.rows k there e) t)
+
   -- an entry that somebody took
   takes : (k : Hand) (state : RowState) (hands : List Hand) → IdsApart all → In k hands → k.cargo ≡ None → Tracks q all before hands → Tracks q all (before ++ (On k.queue (CallLock k.row) (IsStolen state) ∷ [])) (lost k hands)
   takes k state hands apart there unlocked t =
@@ -155,6 +196,66 @@ module _ (q : ℕ) (all : Queue) (before : List Did) where
       tracks_on q k.queue k.row k.id all (Some n) before ds hands (replaced n hands) apart t (replaced_moves n k hands there (is_itself k)) ((refl, λ s. refl), tt) (refl, refl, refl) (λ e. t.rows k there e)
       (λ e. ends_free (Some n) (dids_last q k.row (before ++ ds)) a (one_last k.queue k.row [] (CallUnlock k.row load) IsDone a e (row_hit k.row a)) refl refl)
 
+-- Puts
+
+-- hands without the entries of two lists, one after the other
+let_go_append : (xs ys : List Dropped) (hands : List Hand) → let_go (xs ++ ys) hands ≡ let_go ys (let_go xs hands)
+let_go_append [] ys hands = refl
+let_go_append (x ∷ xs) ys hands = let_go_append xs ys (without x.queue x.id hands)
+
+-- a ring that was trimmed
+trim_tracks : (q : ℕ) (all : Queue) (p : ℕ) (limits : Limits) (xs : List Dropped) (dids before : List Did) (hands : List Hand) → Trims limits p xs dids → IdsApart all → AllByRecursion (DidKnown q all) dids → Tracks q all before hands
+    → Tracks q all (before ++ dids) (let_go xs hands)
+trim_tracks q all p limits [] dids before hands trims apart known t = ⊎_elim
+    (λ within. keeps q all before dids _ hands hands within.1 refl (refl, tt) t)
+    (λ beyond. keeps q all before dids _ hands hands beyond.1 refl (refl, (refl, tt)) t)
+    trims.1
+trim_tracks q all p limits (x ∷ xs) dids before hands trims apart known t =
+    let first : List Did = trims.0 in
+    let others : List Did = trims.1 in
+    let one = trims.2 in
+    let front : List Did = On p CallDepth (IsDepth one.depth) ∷ (On p CallOldest (IsGot one.row one.list one.load) ∷ []) in
+    let each = all_parts (DidKnown q all) first others (subst (AllByRecursion (DidKnown q all)) trims.4 known) in
+    let got = subst (AllByRecursion (DidKnown q all)) one.did each.0 in
+    let gone : Tracks q all (before ++ (front ++ drop p one.row one.size)) (without p one.load.id hands) =
+    drops q all before p one.row one.load.id one.size front hands apart ((refl, tt), ((refl, λ s. refl), tt)) (λ e. got.1.0 e one.row one.load refl) t
+    in
+    let named : Tracks q all (before ++ (front ++ drop p one.row one.size)) (without x.queue x.id hands) = subst (λ (y : Dropped). Tracks q all (before ++ (front ++ drop p one.row one.size)) (without y.queue y.id hands)) (sym one.named) gone in
+    let here : Tracks q all (before ++ first) (without x.queue x.id hands) = subst (λ (ds : List Did). Tracks q all (before ++ ds) (without x.queue x.id hands)) (sym one.did) named in
+    let rest = trim_tracks q all p limits xs others (before ++ first) (without x.queue x.id hands) trims.3 apart each.1 here in
+    subst (λ (ds : List Did). Tracks q all ds (let_go xs (without x.queue x.id hands))) (append_assoc before first others ∙ ap (λ (ds : List Did). before ++ ds) (sym trims.4)) rest
+
+-- a ring, or a queue that is none
+ring_tracks : (q : ℕ) (all : Queue) (p : ℕ) (ring : Bool) (limits : Limits) (xs : List Dropped) (dids before : List Did) (hands : List Hand) → TrimsRing ring limits p xs dids → IdsApart all → AllByRecursion (DidKnown q all) dids → Tracks q all before hands
+    → Tracks q all (before ++ dids) (let_go xs hands)
+ring_tracks q all p true limits xs dids before hands trims apart known t = trim_tracks q all p limits xs dids before hands trims apart known t
+ring_tracks q all p false limits xs dids before hands trims apart known t =
+    keeps q all before dids [] (let_go xs hands) hands trims.1 (ap (λ (ys : List Dropped). let_go ys hands) trims.0) tt t
+
+-- the message was put, and the older entry that it displaced was dropped
+older_tracks : (q : ℕ) (all : Queue) (p n row : ℕ) (depth : Depth) (slip : Slip) (load : Load) (displaced : Option (ℕ × Load)) (xs : List Dropped) (dids before : List Did) (hands : List Hand) → DropsOlder p displaced xs dids → IdsApart all
+    → AllByRecursion (DidKnown q all) (On p (CallReserve n) (IsDepth depth) ∷ (On p (CallPut slip load) (IsAt row displaced) ∷ dids)) → Tracks q all before hands
+    → Tracks q all (before ++ (On p (CallReserve n) (IsDepth depth) ∷ (On p (CallPut slip load) (IsAt row displaced) ∷ dids))) (let_go xs hands)
+older_tracks q all p n row depth slip load None xs dids before hands older apart known t =
+    let ds : List Did = On p (CallReserve n) (IsDepth depth) ∷ (On p (CallPut slip load) (IsAt row None) ∷ []) in
+    keeps q all before _ ds (let_go xs hands) hands (ap (λ (es : List Did). On p (CallReserve n) (IsDepth depth) ∷ (On p (CallPut slip load) (IsAt row None) ∷ es)) older.1) (ap (λ (ys : List Dropped). let_go ys hands) older.0) (refl, (refl, tt)) t
+older_tracks q all p n row depth slip load (Some d) xs dids before hands older apart known t =
+    let front : List Did = On p (CallReserve n) (IsDepth depth) ∷ (On p (CallPut slip load) (IsAt row (Some d)) ∷ []) in
+    done q all before _ (front ++ drop p d.0 older.0) (let_go xs hands) (without p d.1.id hands) (ap (λ (es : List Did). front ++ es) older.2) (ap (λ (ys : List Dropped). let_go ys hands) older.1)
+    (drops q all before p d.0 d.1.id older.0 front hands apart ((refl, tt), ((refl, λ s. refl), tt)) (λ e. known.1.0 e d.0 d.1 refl) t)
+
+-- a put that was admitted
+put_tracks : (q : ℕ) (all : Queue) (defs : List Defined) (s : Standing) (p : ℕ) (m : Content) (own : List Dropped) (dids : List Did) (s' : Standing) (before : List Did) → Puts defs s p m own dids s'
+    → IdsApart all → AllByRecursion (DidKnown q all) dids → Tracks q all before s.hands → Tracks q all (before ++ dids) s'.hands
+put_tracks q all defs s p m own dids s' before puts apart known t =
+    let front : List Did = On p (CallReserve puts.asks.slip.size) (IsDepth puts.asks.depth) ∷ (On p (CallPut puts.asks.slip (fresh m)) (IsAt puts.row puts.displaced) ∷ puts.older_dids) in
+    let each = all_parts (DidKnown q all) front puts.oldest_dids (subst (AllByRecursion (DidKnown q all)) puts.did known) in
+    let first = older_tracks q all p puts.asks.slip.size puts.row puts.asks.depth puts.asks.slip (fresh m) puts.displaced puts.older puts.older_dids before s.hands puts.drops_older apart each.0 t in
+    let both = ring_tracks q all p (is_ring puts.asks.def.limits) puts.asks.def.limits puts.oldest puts.oldest_dids (before ++ front) (let_go puts.older s.hands) puts.trims apart each.1 first in
+    let gone : s'.hands ≡ let_go puts.oldest (let_go puts.older s.hands) = ap (λ (z : Standing). z.hands) puts.leaves ∙ ap (λ (xs : List Dropped). let_go xs s.hands) puts.all ∙ let_go_append puts.older puts.oldest s.hands in
+    done q all before dids (front ++ puts.oldest_dids) s'.hands _ puts.did gone
+    (subst (λ (ds : List Did). Tracks q all ds (let_go puts.oldest (let_go puts.older s.hands))) (append_assoc before front puts.oldest_dids) both)
+
 -- Lines
 
 -- the hands of a standing that is told
@@ -164,7 +265,9 @@ hands_are s' t is = ap (λ (z : Standing). z.hands) is
 -- each line
 line_tracks : (q : ℕ) (all : Queue) (defs : List Defined) (s : Standing) (what : What) (answer : report.Answer) (dids : List Did) (s' : Standing) (before : List Did) → LineFits defs s what answer dids s'
     → IdsApart all → AllByRecursion (DidKnown q all) dids → Tracks q all before s.hands → Tracks q all (before ++ dids) s'.hands
-line_tracks q all defs s (Put p m) (Accepted id flowed dropped) dids s' before fits apart known t = keeps q all before dids _ s'.hands s.hands fits.3.did (hands_are s' s fits.3.same) (refl, (refl, tt)) t
+line_tracks q all defs s (Put p m) (Accepted id flowed acquired) dids s' before fits apart known t = put_tracks q all defs s p m fits.2.0 dids s' before fits.2.2 apart known t
+line_tracks q all defs s (Put p m) (Rejected depth) dids s' before fits apart known t = keeps q all before dids _ s'.hands s.hands fits.did (hands_are s' _ fits.leaves) (refl, (refl, tt)) t
+line_tracks q all defs s (Put p m) (Blocked depth) dids s' before fits apart known t = keeps q all before dids _ s'.hands s.hands fits.did (hands_are s' _ fits.leaves) (refl, (refl, tt)) t
 line_tracks q all defs s (Take d) Closed dids s' before fits apart known t = keeps q all before dids _ s'.hands s.hands fits.1.did (hands_are s' s fits.1.same) tt t
 line_tracks q all defs s (Take d) NoCredit dids s' before fits apart known t = keeps q all before dids _ s'.hands s.hands fits.1.did (hands_are s' s fits.1.same) tt t
 line_tracks q all defs s (Take d) Empty dids s' before fits apart known t = keeps q all before dids _ s'.hands s.hands fits.did (hands_are s' s fits.same) (refl, tt) t
@@ -182,6 +285,9 @@ line_tracks q all defs s (Ack p named) NotHeld dids s' before fits apart known t
 line_tracks q all defs s (Release p named) (Released id) dids s' before fits apart known t =
     done q all before dids _ s'.hands _ fits.fact.does.did (hands_are s' _ fits.fact.does.leaves)
     (frees q all before fits.hand fits.fact.load fits.fact.mask s.hands apart (meant_in p named s.hands fits.hand fits.is_meant) t)
+line_tracks q all defs s (Release p named) (Outdated id) dids s' before fits apart known t =
+    done q all before dids _ s'.hands _ fits.fact.does.did (hands_are s' _ fits.fact.does.leaves)
+    (outdates q all before fits.hand fits.fact.load fits.fact.size s.hands apart (meant_in p named s.hands fits.hand fits.is_meant) t)
 line_tracks q all defs s (Release p named) (Stolen state) dids s' before fits apart known t =
     done q all before dids _ s'.hands _ fits.fact.1.did (hands_are s' _ fits.fact.1.leaves)
     (takes q all before fits.hand state s.hands apart (meant_in p named s.hands fits.hand fits.is_meant) fits.fact.0 t)
@@ -204,11 +310,6 @@ line_tracks q all defs s (Steal p id) (NotStealable state) dids s' before fits a
 line_tracks q all defs s (Steal p id) (Moved state) dids s' before fits apart known t = keeps q all before dids _ s'.hands s.hands fits.1.did (hands_are s' _ fits.1.leaves) (refl, (refl, tt)) t
 line_tracks q all defs s (Steal p id) Absent dids s' before fits apart known t = keeps q all before dids _ s'.hands s.hands fits.did (hands_are s' _ fits.leaves) (refl, tt) t
 line_tracks q all defs s what answer dids s' before fits apart known t = absurd fits
-
--- what holds of two lists in a row holds of each
-pub all_parts : {X : Type 0} (P : X → Type 0) (xs ys : List X) → AllByRecursion P (xs ++ ys) → AllByRecursion P xs × AllByRecursion P ys
-all_parts P [] ys all = (tt, all)
-all_parts P (x ∷ xs) ys all = let rest = all_parts P xs ys all.1 in ((all.0, rest.0), rest.1)
 
 -- and many
 pub lines_track : (q : ℕ) (all : Queue) (defs : List Defined) (s : Standing) (ops : List Op) (answers : List report.Answer) (dids : List Did) (s' : Standing) (before : List Did) → LinesFit defs s ops answers dids s'

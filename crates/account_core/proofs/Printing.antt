@@ -1,8 +1,8 @@
 -- what is told of a phase of allowed lines can be printed
-use Rattle.std.proofs.Common.{◌≡◌, ℕ, zero, suc, ◌+◌, ◌-◌, ◌*◌, ◌^◌, ◌<◌, ◌≤◌, nat_eq, Bool, true, false, cond, Option, Some, None, List, [], ◌∷◌, filter, length, map, slice_get, refl, sym, ap, subst, ⊎_elim, eq-eqb, eqb-true, arith, All}
-use Rattle.std.proofs.lemmas.List.{length-map}
+use Rattle.std.proofs.Common.{◌≡◌, ℕ, zero, suc, ◌+◌, ◌-◌, ◌*◌, ◌^◌, ◌<◌, ◌≤◌, nat_eq, Bool, true, false, cond, Option, Some, None, List, [], ◌∷◌, ◌++◌, filter, length, map, slice_get, refl, sym, ap, ◌∙◌, subst, ⊎_elim, eq-eqb, eqb-true, arith, All}
+use Rattle.std.proofs.lemmas.List.{length-append, length-map}
 use Rattle.std.proofs.lemmas.Option.{slice_get_cases}
-use Rattle.std.proofs.lemmas.List.Elements.{All-from_recursion, All-nil}
+use Rattle.std.proofs.lemmas.List.Elements.{All-drop, All-from_recursion, All-take}
 use Rattle.std.specs.List.{AllByRecursion}
 use Rattle.queue_model.specs.declared.queues.Queue.{Queue}
 use Rattle.queue_model.specs.declared.rows.Row.{Row}
@@ -15,6 +15,7 @@ use Rattle.queue_model.proofs.KeyedLemmas.{find_passes, sum_by-le-times}
 use Rattle.queue_model.proofs.SoundSteps.{sound_after, sound_opening}
 use Rattle.queue_model.proofs.Prefixes.{prefix_self}
 use Rattle.acts_core.specs.Rest.{Rests}
+use Rattle.message_core.specs.Spelling.{Content}
 use Rattle.defs_read.specs.Defined.{Defined}
 use Rattle.script_read.specs.Allowed.{HasOwnOps, IsAllowedPhase, IsDefined, IsOpOf}
 use Rattle.script_read.specs.Phases.{Actors}
@@ -22,7 +23,8 @@ use Rattle.script_read.specs.declared.lines.Op.{Op}
 use Rattle.script_read.specs.declared.lines.What.{What}
 use Rattle.script_read.specs.declared.lines.What.TheVariants.{Put, Take, Close, Ack, Release, Lock, Unlock, Steal}
 use Rattle.report_core.specs.declared.answers.Answer as report
-use Rattle.report_core.specs.declared.answers.Answer.TheVariants.{Accepted, Got, Empty, NoCredit, Closed, Acked, NotHeld, Stolen, Released, Unlocked as LeftUnlocked, Locked as Relocked, Stole, NotStealable, Moved, Absent}
+use Rattle.report_core.specs.declared.answers.Answer.TheVariants.{Accepted, Rejected, Blocked, Got, Empty, NoCredit, Closed, Acked, NotHeld, Stolen, Released, Outdated, Unlocked as LeftUnlocked, Locked as Relocked, Stole, NotStealable, Moved, Absent}
+use Rattle.report_core.specs.declared.answers.Dropped.{Dropped}
 use Rattle.report_core.specs.declared.answers.Resting.{Resting}
 use Rattle.report_core.specs.declared.answers.Span.{Span}
 use Rattle.report_core.specs.Names.{IsHolder, NamesCaller}
@@ -32,7 +34,7 @@ use Rattle.phase_text.specs.Logs.{FitsLine, FitsLog, FitsRest}
 use Rattle.phase_text.specs.declared.logs.Log.{Log}
 use Rattle.phase_text.specs.declared.logs.Rest.{Rest}
 use Rattle.target_core.specs.Seats.{Seats}
-use Rattle.line_core.specs.Fits.{Did, On, Standing, IsTaken, LineFits, LinesFit, OnHeld, nothing_dropped, unlocks}
+use Rattle.line_core.specs.Fits.{Did, On, Standing, IsTaken, LineFits, LinesFit, OnHeld, begins, span_of, unlocks}
 use Rattle.line_core.specs.Hands.{Hand, is_of, is_this, meant}
 use Rattle.line_core.specs.Runs.{calls_on}
 use Rattle.account_core.specs.Accounts.{Account}
@@ -41,9 +43,9 @@ use Rattle.account_core.specs.Phases.{AllOpen, IsPhase}
 use Rattle.account_core.specs.Played.{IsByActor, IsPlayed, Played, rest_of}
 use Rattle.account_core.specs.Stories.{Story, calls_of, told}
 use Rattle.account_core.specs.Texts.{LogsTell, RestsTell, actor_names, holder_of, queue_names, resting, resting_in}
+use Rattle.account_core.proofs.Dropping.{DropMore, IsFrom, all_parts, lines_drop, puts_from}
 use Rattle.account_core.proofs.EntryCounts.{all_entries, entries_le, sum_map}
 use Rattle.account_core.proofs.Handing.{in_filter, get_in}
-use Rattle.account_core.proofs.LineTracks.{all_parts}
 use Rattle.account_core.proofs.Naming.{CallNamed, chain_named, rows_found, state_named}
 use Rattle.account_core.proofs.Tracking.{of_this}
 
@@ -69,66 +71,101 @@ meant_of : (q : ℕ) (named : Option ℕ) (hands : List Hand) (k : Hand) → mea
 meant_of q (Some id) hands k is = (of_this q id k (find_passes (is_this q id) hands k is)).0
 meant_of q None hands k is = eqb-true k.queue q (in_filter (is_of q) k hands (get_in k (filter (is_of q) hands) (length (filter (is_of q) hands) - 1) is)).1
 
-module _ (queues : List (List ℕ)) (n : ℕ) (actors : List (List ℕ)) where
+-- Answers with names. The drops are those of an actor in the end.
+
+-- entries of queue q, which has a name
+from_named : (n q : ℕ) (xs : List Dropped) → q < n → AllByRecursion (IsFrom q) xs → AllByRecursion (λ x. x.queue < n) xs
+from_named n q [] within from = tt
+from_named n q (x ∷ xs) within from = (subst (λ (k : ℕ). k < n) (sym from.0) within, from_named n q xs within from.1)
+
+-- a queue to which a line puts has a name
+put_within : (defs : List Defined) (actor : List ℕ) (what : What) (q : ℕ) (m : Content) → what ≡ Put q m → IsDefined defs actor what → q < length defs
+put_within defs actor what q m is defined = subst (IsDefined defs actor) is defined
+
+-- nothing is asked of calls
+all_free : (ds : List Did) → AllByRecursion (λ d. Unit {0}) ds
+all_free [] = tt
+all_free (d ∷ ds) = (tt, all_free ds)
+
+-- what lines of an actor drop is of queues that have names
+lines_drop_named : (n : ℕ) (defs : List Defined) (journal : Bool) (actor : List ℕ) (s : Standing) (ops : List Op) (answers : List report.Answer) (dids : List Did) (s' : Standing) → LinesFit defs s ops answers dids s' → n ≡ length defs
+    → AllByRecursion (IsOpOf defs journal actor) ops → DropMore (λ x. x.queue < n) answers s.drops s'.drops
+lines_drop_named n defs journal actor s ops answers dids s' fits many own_ops = lines_drop (λ (x : Dropped). x.queue < n) (IsOpOf defs journal actor) (λ d. Unit {0}) defs
+    (λ op q m own t ds t' of free is puts.
+    let within = put_within defs actor op.what q m is of.defined in
+    from_named n q own (omega (arith, many, within)) (puts_from defs t q m own ds t' puts))
+    s ops answers dids s' fits own_ops (all_free dids)
+
+module _ (queues : List (List ℕ)) (n : ℕ) (actors : List (List ℕ)) (drops : List Dropped) (all_named : All (HasQueue queues) drops) where
   -- a line that found its entry taken
   taken_named : (s : Standing) (q : ℕ) (named : Option ℕ) (state : RowState) (dids : List Did) (s' : Standing) → OnHeld s q named (IsTaken s state dids s') → q < n → AllByRecursion (DidNamed n actors) dids → NamesCaller actors state
   taken_named s q named state dids s' held within each =
       let all = subst (AllByRecursion (DidNamed n actors)) held.fact.1.did each in
       all.0 (subst (λ (m : ℕ). m < n) (sym (meant_of q named s.hands held.hand held.is_meant)) within) state refl
 
-  -- no entries were dropped
-  no_drops : (span : Span) → span ≡ nothing_dropped → IsSpan queues [] span
-  no_drops span none = subst (IsSpan queues []) (sym none) (record { ordered = omega arith; within = omega arith; named = All-nil (HasQueue queues) })
+  -- the entries that a put dropped are among all
+  span_named : (old own : List Dropped) (span : Span) → span ≡ span_of old own → length (old ++ own) ≤ length drops → IsSpan queues drops span
+  span_named old own span is few =
+      subst (IsSpan queues drops) (sym is)
+      (record { ordered = omega arith; within = omega (arith, length-append old own, few); named = All-take (HasQueue queues) _ _ (All-drop (HasQueue queues) _ drops all_named) })
 
   -- the answer of each line
   line_named : (defs : List Defined) (actor : List ℕ) (s : Standing) (what : What) (answer : report.Answer) (dids : List Did) (s' : Standing) → LineFits defs s what answer dids s' → n ≡ length defs → IsDefined defs actor what
-      → AllByRecursion (DidNamed n actors) dids → Fits queues actors [] answer
-  line_named defs actor s (Put q m) (Accepted id flowed dropped) dids s' fits many defined each = no_drops dropped fits.2
-  line_named defs actor s (Take c) Closed dids s' fits many defined each = tt
-  line_named defs actor s (Take c) NoCredit dids s' fits many defined each = tt
-  line_named defs actor s (Take c) Empty dids s' fits many defined each = tt
-  line_named defs actor s (Take c) (Got id d) dids s' fits many defined each = tt
-  line_named defs actor s (Close c) Closed dids s' fits many defined each = tt
-  line_named defs actor s (Ack q named) (Acked id) dids s' fits many defined each = tt
-  line_named defs actor s (Ack q named) (Stolen state) dids s' fits many defined each = taken_named s q named state dids s' fits (omega (arith, many, defined)) each
-  line_named defs actor s (Ack q named) NotHeld dids s' fits many defined each = tt
-  line_named defs actor s (Release q named) (Released id) dids s' fits many defined each = tt
-  line_named defs actor s (Release q named) (Stolen state) dids s' fits many defined each = taken_named s q named state dids s' fits (omega (arith, many, defined)) each
-  line_named defs actor s (Release q named) NotHeld dids s' fits many defined each = tt
-  line_named defs actor s (Lock q named) (Relocked id) dids s' fits many defined each = tt
-  line_named defs actor s (Lock q named) (Stolen state) dids s' fits many defined each = taken_named s q named state dids s' fits (omega (arith, many, defined)) each
-  line_named defs actor s (Lock q named) NotHeld dids s' fits many defined each = tt
-  line_named defs actor s (Unlock q named) (LeftUnlocked id) dids s' fits many defined each = tt
-  line_named defs actor s (Unlock q named) NotHeld dids s' fits many defined each = tt
-  line_named defs actor s (Steal q id) (Stole told) dids s' fits many defined each = tt
-  line_named defs actor s (Steal q id) (NotStealable state) dids s' fits many defined each =
+      → AllByRecursion (DidNamed n actors) dids → length s'.drops ≤ length drops → Fits queues actors drops answer
+  line_named defs actor s (Put q m) (Accepted id flowed acquired) dids s' fits many defined each few =
+      span_named s.drops fits.2.0 acquired fits.2.1 (subst (λ (xs : List Dropped). length xs ≤ length drops) (ap (λ (z : Standing). z.drops) fits.2.2.leaves) few)
+  line_named defs actor s (Put q m) (Rejected depth) dids s' fits many defined each few = tt
+  line_named defs actor s (Put q m) (Blocked depth) dids s' fits many defined each few = tt
+  line_named defs actor s (Take c) Closed dids s' fits many defined each few = tt
+  line_named defs actor s (Take c) NoCredit dids s' fits many defined each few = tt
+  line_named defs actor s (Take c) Empty dids s' fits many defined each few = tt
+  line_named defs actor s (Take c) (Got id d) dids s' fits many defined each few = tt
+  line_named defs actor s (Close c) Closed dids s' fits many defined each few = tt
+  line_named defs actor s (Ack q named) (Acked id) dids s' fits many defined each few = tt
+  line_named defs actor s (Ack q named) (Stolen state) dids s' fits many defined each few = taken_named s q named state dids s' fits (omega (arith, many, defined)) each
+  line_named defs actor s (Ack q named) NotHeld dids s' fits many defined each few = tt
+  line_named defs actor s (Release q named) (Released id) dids s' fits many defined each few = tt
+  line_named defs actor s (Release q named) (Outdated id) dids s' fits many defined each few = tt
+  line_named defs actor s (Release q named) (Stolen state) dids s' fits many defined each few = taken_named s q named state dids s' fits (omega (arith, many, defined)) each
+  line_named defs actor s (Release q named) NotHeld dids s' fits many defined each few = tt
+  line_named defs actor s (Lock q named) (Relocked id) dids s' fits many defined each few = tt
+  line_named defs actor s (Lock q named) (Stolen state) dids s' fits many defined each few = taken_named s q named state dids s' fits (omega (arith, many, defined)) each
+  line_named defs actor s (Lock q named) NotHeld dids s' fits many defined each few = tt
+  line_named defs actor s (Unlock q named) (LeftUnlocked id) dids s' fits many defined each few = tt
+  line_named defs actor s (Unlock q named) NotHeld dids s' fits many defined each few = tt
+  line_named defs actor s (Steal q id) (Stole stolen) dids s' fits many defined each few = tt
+  line_named defs actor s (Steal q id) (NotStealable state) dids s' fits many defined each few =
       (subst (AllByRecursion (DidNamed n actors)) fits.1.did each).1.0 (omega (arith, many, defined)) state refl
-  line_named defs actor s (Steal q id) (Moved state) dids s' fits many defined each =
+  line_named defs actor s (Steal q id) (Moved state) dids s' fits many defined each few =
       (subst (AllByRecursion (DidNamed n actors)) fits.1.did each).1.0 (omega (arith, many, defined)) state refl
-  line_named defs actor s (Steal q id) Absent dids s' fits many defined each = tt
-  line_named defs actor s what answer dids s' fits many defined each = absurd fits
+  line_named defs actor s (Steal q id) Absent dids s' fits many defined each few = tt
+  line_named defs actor s what answer dids s' fits many defined each few = absurd fits
 
   -- the answers of lines
   lines_named : (defs : List Defined) (journal : Bool) (actor : List ℕ) (s : Standing) (ops : List Op) (answers : List report.Answer) (dids : List Did) (s' : Standing) → LinesFit defs s ops answers dids s' → n ≡ length defs
-      → AllByRecursion (IsOpOf defs journal actor) ops → AllByRecursion (DidNamed n actors) dids → AllByRecursion (FitsLine queues actors) (told ops answers)
-  lines_named defs journal actor s [] [] dids s' fits many own_ops each = tt
-  lines_named defs journal actor s [] (a ∷ answers) dids s' fits many own_ops each = absurd fits
-  lines_named defs journal actor s (op ∷ ops) [] dids s' fits many own_ops each = absurd fits
-  lines_named defs journal actor s (op ∷ ops) (a ∷ answers) dids s' fits many own_ops each =
-      let parts = all_parts (DidNamed n actors) fits.0 fits.2 (subst (AllByRecursion (DidNamed n actors)) fits.5 each) in (
-        line_named defs actor s op.what a fits.0 fits.1 fits.3 many own_ops.0.defined parts.0,
-        lines_named defs journal actor fits.1 ops answers fits.2 s' fits.4 many own_ops.1 parts.1,
+      → AllByRecursion (IsOpOf defs journal actor) ops → AllByRecursion (DidNamed n actors) dids → length s'.drops ≤ length drops → AllByRecursion (FitsLine queues actors drops) (told ops answers)
+  lines_named defs journal actor s [] [] dids s' fits many own_ops each few = tt
+  lines_named defs journal actor s [] (a ∷ answers) dids s' fits many own_ops each few = absurd fits
+  lines_named defs journal actor s (op ∷ ops) [] dids s' fits many own_ops each few = absurd fits
+  lines_named defs journal actor s (op ∷ ops) (a ∷ answers) dids s' fits many own_ops each few =
+      let parts = all_parts (DidNamed n actors) fits.0 fits.2 (subst (AllByRecursion (DidNamed n actors)) fits.5 each) in
+      let more = lines_drop_named n defs journal actor fits.1 ops answers fits.2 s' fits.4 many own_ops.1 in
+      let longer : length s'.drops ≡ length fits.1.drops + length more.own = ap length more.all ∙ length-append fits.1.drops more.own in (
+        line_named defs actor s op.what a fits.0 fits.1 fits.3 many own_ops.0.defined parts.0 (omega (arith, longer, few)),
+        lines_named defs journal actor fits.1 ops answers fits.2 s' fits.4 many own_ops.1 parts.1 few,
       )
 
-  -- the logs of all actors
-  logs_named : (logs : List Log) (stories : List Story) → ((i : ℕ) (s : Story) → slice_get stories i ≡ Some s → AllByRecursion (FitsLine queues actors) (told s.ops s.answers)) → LogsTell logs stories → AllByRecursion (FitsLog queues actors) logs
-  logs_named [] [] each tells = tt
-  logs_named [] (s ∷ stories) each tells = absurd tells
-  logs_named (log ∷ logs) [] each tells = absurd tells
-  logs_named (log ∷ logs) (s ∷ stories) each tells = (
-    subst (λ (lines : List (ℕ × report.Answer)). All (FitsLine queues actors) lines) (sym tells.1) (All-from_recursion (FitsLine queues actors) (told s.ops s.answers) (each 0 s refl)),
-    logs_named logs stories (λ i t there. each (suc i) t there) tells.2,
-  )
+-- the logs of all actors
+logs_named : (queues actors : List (List ℕ)) (logs : List Log) (stories : List Story)
+    → ((i : ℕ) (s : Story) → slice_get stories i ≡ Some s → AllByRecursion (FitsLine queues actors s.end.drops) (told s.ops s.answers)) → LogsTell logs stories → AllByRecursion (FitsLog queues actors) logs
+logs_named queues actors [] [] each tells = tt
+logs_named queues actors [] (s ∷ stories) each tells = absurd tells
+logs_named queues actors (log ∷ logs) [] each tells = absurd tells
+logs_named queues actors (log ∷ logs) (s ∷ stories) each tells = (
+  subst (λ (drops : List Dropped). All (FitsLine queues actors drops) log.lines.items) (sym tells.2)
+      (subst (λ (lines : List (ℕ × report.Answer)). All (FitsLine queues actors s.end.drops) lines) (sym tells.1) (All-from_recursion (FitsLine queues actors s.end.drops) (told s.ops s.answers) (each 0 s refl))),
+  logs_named queues actors logs stories (λ i t there. each (suc i) t there) tells.3,
+)
 
 -- Entries
 
@@ -254,7 +291,7 @@ pub states_named : (defs : List Defined) (rows : List (List Row)) (actors : Acto
     → IsAllowedPhase defs journal actors → IsPhase defs rows actors a seats seats' → LogsTell logs a.stories → RestsTell rests defs a.queues
     → All (FitsLog (queue_names defs) (actor_names a.stories)) logs × All (FitsRest (actor_names a.stories)) rests
 states_named defs rows actors journal a seats seats' logs rests allowed phase tell tells = (
-  All-from_recursion (FitsLog (queue_names defs) names) logs (logs_named (queue_names defs) n names logs a.stories story_named tell),
+  All-from_recursion (FitsLog (queue_names defs) names) logs (logs_named (queue_names defs) names logs a.stories story_named tell),
   All-from_recursion (FitsRest names) rests (rests_named names rests defs a.queues (λ q p there. rest_named a.stories q p (open_all.1 q p there) (phase.queues q p there)) tells),
 ) where
   names : List (List ℕ)
@@ -275,8 +312,14 @@ states_named defs rows actors journal a seats seats' logs rests allowed phase te
       subst (AllByRecursion (CallNamed names)) makes.same
       (chain_named names p.0.plan (i + 1) [] makes.made p.0.history p.0.history (open_all.1 q p.0 p.1) played.legal callers makes.chain (prefix_self p.0.history))
 
-  story_named : (i : ℕ) (s : Story) → slice_get a.stories i ≡ Some s → AllByRecursion (FitsLine (queue_names defs) names) (told s.ops s.answers)
+  story_named : (i : ℕ) (s : Story) → slice_get a.stories i ≡ Some s → AllByRecursion (FitsLine (queue_names defs) names s.end.drops) (told s.ops s.answers)
   story_named i s there =
       let own_ops = own_lines defs journal a.stories (subst (AllByRecursion (HasOwnOps defs journal)) (sym phase.lines) allowed.own) i s there in
       let dids = all_parts (DidNamed n names) s.dids (unlocks s.end.hands) (dids_named n names (calls_of s) (calls_named i s there)) in
-      lines_named (queue_names defs) n names defs journal s.name (record { hands = []; seats = s.seats }) s.ops s.answers s.dids s.end (phase.stories i s there) open_all.0 own_ops dids.0
+      let dropped = lines_drop_named n defs journal s.name (begins defs s.seats) s.ops s.answers s.dids s.end (phase.stories i s there) open_all.0 own_ops in
+      let long : n ≡ length (queue_names defs) = open_all.0 ∙ sym (length-map defs (λ (d : Defined). d.name)) in
+      let all_dropped : All (HasQueue (queue_names defs)) s.end.drops =
+      subst (All (HasQueue (queue_names defs))) (sym dropped.all)
+      (subst (λ (k : ℕ). All (λ (x : Dropped). x.queue < k) dropped.own) long (All-from_recursion (λ (x : Dropped). x.queue < n) dropped.own dropped.each))
+      in
+      lines_named (queue_names defs) n names s.end.drops all_dropped defs journal s.name (begins defs s.seats) s.ops s.answers s.dids s.end (phase.stories i s there) open_all.0 own_ops dids.0 (omega arith)

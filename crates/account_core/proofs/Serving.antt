@@ -8,10 +8,10 @@ use Rattle.script_read.specs.declared.lines.Op.{Op}
 use Rattle.script_read.specs.declared.lines.What.{What}
 use Rattle.script_read.specs.declared.lines.What.TheVariants.{Put, Take, Close, Ack, Release, Lock, Unlock, Steal}
 use Rattle.report_core.specs.declared.answers.Answer.{Answer}
-use Rattle.report_core.specs.declared.answers.Answer.TheVariants.{Accepted, Got, Empty, NoCredit, Closed, Acked, NotHeld, Stolen, Released, Unlocked, Locked, Stole, NotStealable, Moved, Absent}
+use Rattle.report_core.specs.declared.answers.Answer.TheVariants.{Accepted, Rejected, Blocked, Got, Empty, NoCredit, Closed, Acked, NotHeld, Stolen, Released, Outdated, Unlocked, Locked, Stole, NotStealable, Moved, Absent}
 use Rattle.target_core.specs.Seats.{Seat, Seats, seat_at, served}
 use Rattle.target_core.specs.declared.deliveries.Delivery.{Delivery}
-use Rattle.line_core.specs.Fits.{Did, Standing, Gets, LineFits, LinesFit}
+use Rattle.line_core.specs.Fits.{Did, Standing, Gets, LineFits, LinesFit, begins}
 use Rattle.account_core.specs.Served.{Grew, served_by, served_in}
 use Rattle.account_core.specs.Stories.{Story, IsStory}
 
@@ -85,7 +85,9 @@ stays : (c : ℕ) (s s' t : Standing) → s' ≡ t → t.seats ≡ s.seats → G
 stays c s s' t is same = same_seats c s.seats s'.seats (ap (λ (z : Standing). z.seats) is ∙ same)
 
 line_serves : (defs : List Defined) (s : Standing) (what : What) (answer : Answer) (dids : List Did) (s' : Standing) → LineFits defs s what answer dids s' → (c : ℕ) → Grew c (served_by c what answer) (seat_at s.seats c) (seat_at s'.seats c)
-line_serves defs s (Put q m) (Accepted id flowed dropped) dids s' fits c = stays c s s' s fits.3.same refl
+line_serves defs s (Put q m) (Accepted id flowed acquired) dids s' fits c = stays c s s' _ fits.2.2.leaves refl
+line_serves defs s (Put q m) (Rejected depth) dids s' fits c = stays c s s' _ fits.leaves refl
+line_serves defs s (Put q m) (Blocked depth) dids s' fits c = stays c s s' _ fits.leaves refl
 line_serves defs s (Take d) Closed dids s' fits c = stays c s s' s fits.1.same refl
 line_serves defs s (Take d) NoCredit dids s' fits c = stays c s s' s fits.1.same refl
 line_serves defs s (Take d) Empty dids s' fits c = stays c s s' s fits.same refl
@@ -96,6 +98,7 @@ line_serves defs s (Ack q named) (Acked id) dids s' fits c = stays c s s' _ fits
 line_serves defs s (Ack q named) (Stolen state) dids s' fits c = stays c s s' _ fits.fact.1.leaves refl
 line_serves defs s (Ack q named) NotHeld dids s' fits c = stays c s s' s fits.1.same refl
 line_serves defs s (Release q named) (Released id) dids s' fits c = stays c s s' _ fits.fact.does.leaves refl
+line_serves defs s (Release q named) (Outdated id) dids s' fits c = stays c s s' _ fits.fact.does.leaves refl
 line_serves defs s (Release q named) (Stolen state) dids s' fits c = stays c s s' _ fits.fact.1.leaves refl
 line_serves defs s (Release q named) NotHeld dids s' fits c = stays c s s' s fits.1.same refl
 line_serves defs s (Lock q named) (Locked id) dids s' fits c = stays c s s' _ fits.fact.does.leaves refl
@@ -119,4 +122,4 @@ lines_serve defs s (op ∷ ops) (a ∷ answers) dids s' fits c =
     (lines_serve defs fits.1 ops answers fits.2 s' fits.4 c)
 
 pub story_serves : (defs : List Defined) (s : Story) → IsStory defs s → (c : ℕ) → Grew c (served_in c s.ops s.answers) (seat_at s.seats c) (seat_at s.end.seats c)
-story_serves defs s is c = lines_serve defs (record { hands = []; seats = s.seats }) s.ops s.answers s.dids s.end is c
+story_serves defs s is c = lines_serve defs (begins defs s.seats) s.ops s.answers s.dids s.end is c

@@ -1,5 +1,5 @@
 -- no row is left locked or dequeued when all actors are done
-use Rattle.std.proofs.Common.{◌≡◌, ◌≢◌, ℕ, zero, suc, ◌+◌, ◌<◌, ◌≤◌, ◌==◌, nat_eq, Bool, true, false, cond, Some, List, [], ◌∷◌, find, length, map, slice_get, refl, sym, ap, ◌∙◌, subst, ⊎_elim, eq-eqb, eqb-true, arith}
+use Rattle.std.proofs.Common.{◌≡◌, ◌≢◌, ℕ, zero, suc, ◌+◌, ◌<◌, ◌≤◌, ◌==◌, Bool, true, false, cond, Some, List, [], ◌∷◌, find, length, map, slice_get, refl, sym, ap, ◌∙◌, subst, ⊎_elim, eq-eqb, eqb-true, arith}
 use Rattle.std.proofs.lemmas.Bool.{cases_eq}
 use Rattle.std.proofs.lemmas.Option.{slice_get_cases}
 use Rattle.std.specs.List.{AllByRecursion, count_by}
@@ -26,7 +26,7 @@ use Rattle.acts_core.specs.Sight.{Build, Plan, plan_of}
 use Rattle.acts_core.proofs.Chaining.{chain_grows}
 use Rattle.acts_core.proofs.Gaining.{call_gains}
 use Rattle.defs_read.specs.Defined.{Defined}
-use Rattle.line_core.specs.Fits.{Did, On, unlocks}
+use Rattle.line_core.specs.Fits.{begins, unlocks}
 use Rattle.line_core.specs.Runs.{calls_on}
 use Rattle.account_core.specs.Last.{leads_to}
 use Rattle.account_core.specs.Played.{IsByActor, IsGathered, Makes}
@@ -34,9 +34,10 @@ use Rattle.account_core.specs.Settling.{AreStories, PutsOnce}
 use Rattle.account_core.specs.Stories.{Story, IsStory, calls_of}
 use Rattle.account_core.proofs.Acting.{acts_by, count_cons, last_of_acts}
 use Rattle.account_core.proofs.Closing.{joined_makes}
+use Rattle.account_core.proofs.Dropping.{all_parts}
 use Rattle.account_core.proofs.Last.{last_touch}
-use Rattle.account_core.proofs.LineTracks.{DidKnown, Known, lines_track, tracks_end, all_parts}
-use Rattle.account_core.proofs.Putting.{own_calls, rows_count}
+use Rattle.account_core.proofs.LineTracks.{DidKnown, Known, dids_each, lines_track, tracks_end}
+use Rattle.account_core.proofs.Putting.{few_entered, own_calls, rows_count}
 use Rattle.account_core.proofs.Tracking.{HasRow, IdsApart, dequeues, dids_last, last_of_dids, locks, tracks_none}
 
 -- Rows of one id
@@ -84,12 +85,8 @@ row_later o s0 s1 r id grows has =
     let same : after (after o s0) grows.0 ≡ after o s1 = sym (after-append o s0 grows.0) ∙ ap (after o) grows.1 in
     (t.0, subst (λ (q : Queue). row_at q r ≡ Some t.0) same t.1, ap (λ (s : Slip). s.id) t.2.slip ∙ has.2)
 
--- what the calls gained is known
-abbrev CallKnown : Queue → Call × Answer → Type 0
-CallKnown all c = Known all c.0 c.1
-
 -- what a caller gained is a row of the whole history
-chain_known : (p : Plan) (h : ℕ) (from : List Deed) (ms : List Made) (to : List Deed) → Chain p h from ms to → AllByRecursion (CallKnown (after p.opening to)) (map (λ m. (m.call, m.answer)) ms)
+pub chain_known : (p : Plan) (h : ℕ) (from : List Deed) (ms : List Made) (to : List Deed) → Chain p h from ms to → AllByRecursion (λ (c : Call × Answer). Known (after p.opening to) c.0 c.1) (map (λ m. (m.call, m.answer)) ms)
 chain_known p h from [] to chain = tt
 chain_known p h from (m ∷ ms) to chain = (
   λ r load e.
@@ -97,15 +94,6 @@ chain_known p h from (m ∷ ms) to chain = (
       row_later p.opening m.later to r load.id (chain_grows p h m.later ms to chain.2) (g.row, g.found, sym g.same.id),
   chain_known p h m.later ms to chain.2,
 )
-
--- what is known of the calls on a queue, of all calls
-dids_known : (q : ℕ) (all : Queue) (ds : List Did) → AllByRecursion (CallKnown all) (calls_on q ds) → AllByRecursion (DidKnown q all) ds
-dids_known q all [] known = tt
-dids_known q all (On s call answer ∷ ds) known = by_test (nat_eq s q) refl known (dids_known q all ds) where
-  by_test : (b : Bool) → nat_eq s q ≡ b → AllByRecursion (CallKnown all) (cond b ((call, answer) ∷ calls_on q ds) (calls_on q ds))
-      → (AllByRecursion (CallKnown all) (calls_on q ds) → AllByRecursion (DidKnown q all) ds) → AllByRecursion (DidKnown q all) (On s call answer ∷ ds)
-  by_test true e known rest = (λ same. known.0, rest known.1)
-  by_test false e known rest = (λ same. let bad : true ≡ false = sym (eq-eqb s q same) ∙ e in absurd (cc), rest known)
 
 -- Stories
 
@@ -117,8 +105,8 @@ story_ends q defs s p h history r is makes apart =
     let same : last_on r (own h history) ≡ dids_last q r (calls_of s) =
     ap (last_on r) (own_calls p h history (calls_on q (calls_of s)) makes) ∙ last_of_acts h r (acts_by p (calls_on q (calls_of s))) ∙ last_of_dids p q r (calls_of s)
     in
-    let known = dids_known q all (calls_of s) (subst (AllByRecursion (CallKnown all)) makes.same (chain_known p h [] makes.made history makes.chain)) in
-    let t = lines_track q all defs (record { hands = []; seats = s.seats }) s.ops s.answers s.dids s.end [] is apart (all_parts (DidKnown q all) s.dids (unlocks s.end.hands) known).0 (tracks_none q all) in
+    let known = dids_each q (Known all) (calls_of s) (subst (AllByRecursion (λ (c : Call × Answer). Known all c.0 c.1)) makes.same (chain_known p h [] makes.made history makes.chain)) in
+    let t = lines_track q all defs (begins defs s.seats) s.ops s.answers s.dids s.end [] is apart (all_parts (DidKnown q all) s.dids (unlocks s.end.hands) known).0 (tracks_none q all) in
     let ends = tracks_end q all s.dids s.end.hands r t in
     (ap locks same ∙ ends.0, ap dequeues same ∙ ends.1)
 
@@ -169,7 +157,7 @@ settles defs q stories build opening history r x opens are gathered once_each fo
   all = after opening history
 
   apart : IdsApart all
-  apart = ids_apart all (λ id. omega (arith, rows_count defs q stories build opening history (λ i. i == id) are gathered, once_each id))
+  apart = ids_apart all (λ id. omega (arith, rows_count defs q stories build opening history (λ i. i == id) are gathered, few_entered q (λ i. i == id) stories, once_each id))
 
   ends_of : (k : ℕ) (a : Act) → last_on r (own k history) ≡ Some a → (locks (Some a) ≡ false) × (dequeues (Some a) ≡ false)
   ends_of zero a last = absurd (omega (arith, (acts_among (length stories) zero history r a gathered.callers last).0))

@@ -1,11 +1,12 @@
 -- texts of accounts, and what a carry keeps
-use Rattle.std.proofs.Common.{◌≡◌, ℕ, List, [], ◌∷◌, ◌++◌, map, refl, ap, ap₂}
+use Rattle.std.proofs.Common.{◌≡◌, ℕ, List, [], ◌∷◌, ◌++◌, map, refl, ap, ap₂, ◌∙◌}
 use Rattle.std.specs.List.{flat_map, AllByRecursion}
 use Rattle.queue_model.specs.declared.rows.Row.{Row}
 use Rattle.queue_model.specs.declared.rows.RowState.TheVariants.{Available}
 use Rattle.defs_read.specs.Defined.{Defined}
 use Rattle.script_read.specs.declared.lines.Op.{Op}
 use Rattle.report_core.specs.declared.answers.Answer.{Answer}
+use Rattle.report_core.specs.declared.answers.Dropped.{Dropped}
 use Rattle.report_core.specs.Texts.{queue_lines}
 use Rattle.phase_text.specs.Logs.{line_text, log_text, rest_text, phase_text}
 use Rattle.phase_text.specs.declared.logs.Log.{Log}
@@ -37,8 +38,9 @@ logs_told defs stories [] (s ∷ ss) tell = absurd tell
 logs_told defs stories (log ∷ logs) [] tell = absurd tell
 logs_told defs stories (log ∷ logs) (s ∷ ss) tell =
     ap₂ (λ (x y : List ℕ). x ++ y)
-    (ap₂ (λ (name : List ℕ) (lines : List (ℕ × Answer)). flat_map (line_text (queue_names defs) (actor_names stories) name) lines) tell.0 tell.1)
-    (logs_told defs stories logs ss tell.2)
+    (ap₂ (λ (name : List ℕ) (lines : List (ℕ × Answer)). flat_map (line_text (queue_names defs) (actor_names stories) log.drops.items name) lines) tell.0 tell.1
+    ∙ ap (λ (drops : List Dropped). flat_map (line_text (queue_names defs) (actor_names stories) drops s.name) (told s.ops s.answers)) tell.2)
+    (logs_told defs stories logs ss tell.3)
 
 rests_told : (actors : List (List ℕ)) (rests : List Rest) (defs : List Defined) (queues : List Played) → RestsTell rests defs queues → flat_map (rest_text actors) rests ≡ queues_text actors defs queues
 rests_told actors [] [] [] tell = refl

@@ -1,5 +1,5 @@
 -- the accounts of put, take, rest, take
-use Rattle.std.proofs.Common.{arith, append-nil, eq-eqb, ne_eqb, ◌≡◌, ◌≢◌, ◌⊎◌, inl, inr, ℕ, zero, suc, ◌<◌, ◌+◌, ◌==◌, Some, None, List, [], ◌∷◌, refl, sym, ap, subst, slice_get, find}
+use Rattle.std.proofs.Common.{arith, append-nil, eq-eqb, ne_eqb, ◌≡◌, ◌≢◌, ◌⊎◌, inl, inr, ℕ, zero, suc, ◌<◌, ◌+◌, ◌==◌, false, Some, None, List, [], ◌∷◌, refl, sym, ap, subst, slice_get, find}
 use Rattle.std.specs.Int.{bit_at}
 use Rattle.std.specs.Fmt.{digits}
 use Rattle.std.proofs.lemmas.Nat.Bits.{bit_at_ones_above}
@@ -47,7 +47,28 @@ first_is = (
   _,
   _,
   _,
-  (refl, refl, refl, record { def = queue_q; defined = refl; slip = slip; fits = slip_is; depth = record { entries = 0; bytes = 0 }; row = 0; did = refl; same = refl }),
+  (
+    refl,
+    refl,
+    (
+      [],
+      refl,
+      record {
+        asks = record { def = queue_q; defined = refl; slip = slip; fits = slip_is; depth = record { entries = 0; bytes = 0 }; was = false; before = refl; now = false; verdict = refl };
+        row = 0;
+        displaced = None;
+        older = [];
+        older_dids = [];
+        drops_older = (refl, refl);
+        oldest = [];
+        oldest_dids = [];
+        trims = (refl, refl);
+        all = refl;
+        did = refl;
+        leaves = refl;
+      },
+    ),
+  ),
   (
     _,
     _,

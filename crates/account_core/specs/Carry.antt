@@ -6,11 +6,10 @@ use Rattle.queue_model.specs.declared.rows.RowState.{RowState}
 use Rattle.queue_model.specs.declared.rows.RowState.TheVariants.{Available, Locked, Unlocked, Dequeued, Deleted}
 use Rattle.queue_model.specs.Sound.{IsOpening}
 use Rattle.queue_model.specs.State.{rows_of}
-use Rattle.acts_core.specs.Sight.{Kind, Listed, Sorted, LastValue, Plan}
+use Rattle.acts_core.specs.Sight.{Kind, Listed, Plan}
 use Rattle.defs_read.specs.Defined.{Defined}
 use Rattle.defs_read.specs.Slips.{lists_of}
-use Rattle.defs_read.specs.declared.defs.QueueKind.{QueueKind}
-use Rattle.defs_read.specs.declared.defs.QueueKind.TheVariants as kinds
+use Rattle.line_core.specs.Places.{kind_of}
 use Rattle.account_core.specs.Played.{Played, rest_of}
 
 -- Entries
@@ -52,13 +51,6 @@ abbrev pub handed_on : Played → List Row
 handed_on p = map carried (entries_of (rest_of p))
 
 -- Openings
-
--- what kind of queue a definition makes
-abbrev pub kind_of : QueueKind → Kind
-kind_of kinds.Standard = Listed
-kind_of (kinds.Priority n) = Listed
-kind_of (kinds.Sorted key) = Sorted
-kind_of (kinds.LastValue key) = LastValue
 
 -- whether queues of a kind ring and take bells
 abbrev pub uses_bells : Kind → Bool

@@ -9,5 +9,6 @@ pub mod Served
 pub mod Last
 pub mod Counting
 pub mod Settling
+pub mod Dropping
 pub mod Laws
 pub mod TwoPhases

@@ -18,7 +18,7 @@ use Rattle.phase_text.specs.declared.logs.Log.{Log}
 use Rattle.phase_text.specs.declared.logs.Rest.{Rest}
 use Rattle.account_core.specs.Accounts.{Account}
 use Rattle.account_core.specs.Carry.{Opens, handed_on}
-use Rattle.account_core.specs.Counting.{puts_by, with_ids}
+use Rattle.account_core.specs.Counting.{entered_by, puts_by, with_ids}
 use Rattle.account_core.specs.Phases.{IsPhase}
 use Rattle.account_core.specs.Played.{Played, IsGathered, rest_of}
 use Rattle.account_core.specs.Stories.{Story, IsStory}
@@ -35,14 +35,18 @@ PutsOnce q stories opening =
 
 -- Counts
 
--- each row of a queue was there when it began, or a line put it there
+-- each row of a queue was there when it began, or a line put it there, and that put was admitted
 abbrev pub RowsCount : Type 0
 RowsCount =
     (defs : List Defined) (q : ℕ) (stories : List Story) (build : Build) (opening : Queue)
     (history : List Deed) (test : ℕ → Bool)
     → AreStories defs stories → IsGathered q stories build opening history
     → with_ids test (after opening history).rows
-    ≡ with_ids test opening.rows + puts_by q test stories
+    ≡ with_ids test opening.rows + entered_by q test stories
+
+-- no more messages were admitted than the lines put
+abbrev pub FewEntered : Type 0
+FewEntered = (q : ℕ) (test : ℕ → Bool) (stories : List Story) → entered_by q test stories ≤ puts_by q test stories
 
 -- a queue began with as many rows of these ids as were handed to it
 abbrev pub OpensCount : Type 0

@@ -4,10 +4,10 @@ use Rattle.defs_read.specs.Defined.{Defined}
 use Rattle.script_read.specs.declared.lines.Op.{Op}
 use Rattle.report_core.specs.declared.answers.Answer.{Answer}
 use Rattle.target_core.specs.Seats.{Seats}
-use Rattle.line_core.specs.Fits.{Did, Standing, LinesFit, unlocks}
+use Rattle.line_core.specs.Fits.{Did, Standing, LinesFit, begins, unlocks}
 
 -- an actor's lines and answers, and the calls of its lines; its targets before them, and how it stood after the last
--- one
+-- one, with all entries that its puts dropped
 pub record Story : Type 0 where
   pub name : List ℕ
   pub ops : List Op
@@ -16,13 +16,9 @@ pub record Story : Type 0 where
   pub seats : Seats
   pub end : Standing
 
--- how an actor stands before its first line
-abbrev pub begins : Seats → Standing
-begins seats = record { hands = []; seats = seats }
-
 -- the answers fit the lines, with these calls
 abbrev pub IsStory : List Defined → Story → Type 0
-IsStory defs s = LinesFit defs (begins s.seats) s.ops s.answers s.dids s.end
+IsStory defs s = LinesFit defs (begins defs s.seats) s.ops s.answers s.dids s.end
 
 -- all calls of an actor in a phase: those of its lines, and then the unlocks of what it had locked
 abbrev pub calls_of : Story → List Did

@@ -21,9 +21,10 @@ queue_names defs = map (λ d. d.name) defs
 abbrev pub actor_names : List Story → List (List ℕ)
 actor_names stories = map (λ s. s.name) stories
 
--- the lines of an actor with their answers, in order
+-- the lines of an actor with their answers, in order; an answer names its own of the entries that were dropped
 abbrev pub story_text : List Defined → List Story → Story → List ℕ
-story_text defs stories s = flat_map (line_text (queue_names defs) (actor_names stories) s.name) (told s.ops s.answers)
+story_text defs stories s =
+    flat_map (line_text (queue_names defs) (actor_names stories) s.end.drops s.name) (told s.ops s.answers)
 
 -- the actor that had a row, by its number
 abbrev pub holder_of : RowState → Option ℕ
@@ -60,7 +61,7 @@ run_text defs accounts = flat_map (account_text defs) accounts
 abbrev pub LogsTell : List Log → List Story → Type 0
 LogsTell [] [] = Unit {0}
 LogsTell (log ∷ logs) (s ∷ stories) =
-    (log.name ≡ s.name) × (log.lines.items ≡ told s.ops s.answers)
+    (log.name ≡ s.name) × (log.lines.items ≡ told s.ops s.answers) × (log.drops.items ≡ s.end.drops)
     × LogsTell logs stories
 LogsTell logs stories = ⊥
 

@@ -19,7 +19,7 @@ use Rattle.script_read.specs.declared.lines.What.TheVariants.{Put, Take}
 use Rattle.report_core.specs.declared.answers.Answer.TheVariants as say
 use Rattle.target_core.specs.Seats.{Seat, Seats}
 use Rattle.target_core.specs.declared.deliveries.Delivery.{Delivery}
-use Rattle.line_core.specs.Fits.{On, Standing, delivered, fresh, in_hands, nothing_dropped}
+use Rattle.line_core.specs.Fits.{On, Standing, delivered, fresh, in_hands, span_of}
 use Rattle.account_core.specs.Accounts.{Account}
 use Rattle.account_core.specs.Phases.{ArePhases, nothing}
 use Rattle.account_core.specs.Played.{Played}
@@ -61,7 +61,8 @@ abbrev pub seat : ℕ → List Delivery → Seats
 seat room ds = Some (seat_of room ds) ∷ []
 
 abbrev pub leaves : ℕ → List Delivery → Standing
-leaves n ds = record { hands = in_hands 0 0 (delivered n load) ∷ []; seats = seat 0 ds }
+leaves n ds =
+    record { hands = in_hands 0 0 (delivered n load) ∷ []; seats = seat 0 ds; stopped = false ∷ []; drops = [] }
 
 -- the first phase: the target was prepared for one delivery
 abbrev pub first : Story
@@ -69,7 +70,7 @@ first = record {
   name = codes "a";
   ops = record { line = 2; actor = codes "a"; what = Put 0 message }
       ∷ (record { line = 3; actor = codes "a"; what = Take 0 } ∷ []);
-  answers = say.Accepted 7 false nothing_dropped ∷ (say.Got 7 1 ∷ []);
+  answers = say.Accepted 7 false (span_of [] []) ∷ (say.Got 7 1 ∷ []);
   dids = On 0 (CallReserve 16) (IsDepth (record { entries = 0; bytes = 0 }))
       ∷ (On 0 (CallPut slip load) (IsAt 0 None) ∷ (On 0 (CallNext 0) (IsGot 0 0 load) ∷ []));
   seats = seat 1 [];

@@ -1,9 +1,10 @@
 //! Laws on accounts. No program needs to call them: each has its laws as its contract.
 ghost use Rattle.account_core.specs.Laws.{AccountTold, CarryFrees, CarryKeeps, ClosedPlayed, DequeuedOnce, GotCounts, LogTold, OneState, PhasesAppend, TextAppend};
+ghost use Rattle.account_core.specs.Dropping.{DropsGone, DropsTold};
 ghost use Rattle.account_core.specs.Last.{LastTouch};
 ghost use Rattle.account_core.specs.Runs.{NoneRan};
 ghost use Rattle.account_core.specs.Served.{StoryServes};
-ghost use Rattle.account_core.specs.Settling.{HandsOnCount, OpensCount, RowsCount, Settles, StatesNamed};
+ghost use Rattle.account_core.specs.Settling.{FewEntered, HandsOnCount, OpensCount, RowsCount, Settles, StatesNamed};
 ghost use Rattle.account_core.specs.TwoPhases.{TwoPhasesRuns, TwoPhasesText};
 
 /// What no history has: an entry with two holders, or one that is dequeued twice; and how a row came into its state.
@@ -40,12 +41,19 @@ pub fn queues()
 pub fn counts()
     ensures opens { OpensCount }
     ensures rows { RowsCount }
+    ensures entered { FewEntered }
     ensures hands_on { HandsOnCount }
 {}
 
 /// What holds of each row of a queue when all passes were joined.
 pub fn rests()
     ensures { Settles }
+{}
+
+/// What the answers of an actor's lines tell of the entries that its puts dropped.
+pub fn drops()
+    ensures told { DropsTold }
+    ensures gone { DropsGone }
 {}
 
 /// What is told of a phase can be printed.

@@ -2,6 +2,10 @@
 use Rattle.std.proofs.Common.{◌≡◌, ℕ, suc, ◌+◌, Bool, cond, Some, List, [], ◌∷◌, length, map, slice_get, refl, sym, ap, ap₂, ◌∙◌}
 use Rattle.std.specs.List.{flat_map, sum_by}
 use Rattle.std.proofs.lemmas.List.Sums.{sum_by-append, sum_by-cons}
+use Rattle.queue_model.specs.declared.queues.Depth.{Depth}
+use Rattle.queue_model.specs.declared.queues.Limits.{Limits}
+use Rattle.queue_model.specs.declared.queues.Policy.{Policy}
+use Rattle.queue_model.specs.declared.queues.Policy.TheVariants as policy
 use Rattle.queue_model.specs.declared.rows.Row.{Row}
 use Rattle.defs_read.specs.Defined.{Defined}
 use Rattle.script_read.specs.Allowed.{all_ops, ops_in}
@@ -13,21 +17,40 @@ use Rattle.report_core.specs.declared.answers.Answer.{Answer}
 use Rattle.report_core.specs.declared.answers.Answer.TheVariants as say
 use Rattle.target_core.specs.Seats.{Seats}
 use Rattle.gen_core.specs.Laws.{bytes_put as body_of, is_put}
-use Rattle.line_core.specs.Fits.{Did, LineFits, LinesFit, Standing}
+use Rattle.message_core.specs.Spelling.{Content}
+use Rattle.overflow_core.specs.Limits.{is_over, is_still_full, judged, judged_by}
+use Rattle.overflow_core.specs.declared.verdicts.Verdict.{Verdict}
+use Rattle.overflow_core.specs.declared.verdicts.Verdict.TheVariants as verdict
+use Rattle.line_core.specs.Fits.{Did, LineFits, LinesFit, Refuses, Standing}
 use Rattle.account_core.specs.Accounts.{Account}
 use Rattle.account_core.specs.Carry.{handed_on}
 use Rattle.account_core.specs.Phases.{ArePhases}
 use Rattle.account_core.specs.Stories.{IsStory, Story, told}
 use Rattle.broker_top.specs.Summary.{all_answers, all_bytes, answered, answers_in, bytes_in, bytes_of, bytes_put, is_ok}
 
+-- Queues of no policy
+
+-- no queue has a policy
+abbrev pub NoPolicies : List Defined → Type 0
+NoPolicies defs = (q : ℕ) (def : Defined) → slice_get defs q ≡ Some def → def.limits.policy ≡ policy.None
+
+-- then no put is refused
+none_judges : (limits : Limits) (was persistent : Bool) (size : ℕ) (d : Depth) → limits.policy ≡ policy.None → judged limits was persistent size d ≡ (verdict.Admitted, was)
+none_judges limits was persistent size d none = ap (λ (p : Policy). judged_by p (is_over limits size d) (is_still_full limits d) was persistent d) none
+
+refuses_none : (defs : List Defined) (s : Standing) (q : ℕ) (m : Content) (v : Verdict) (dids : List Did) (s' : Standing) → NoPolicies defs → Refuses defs s q m v dids s' → v ≡ verdict.Admitted
+refuses_none defs s q m v dids s' none refuses =
+    let asks = refuses.asks in
+    ap (λ (x : Verdict × Bool). x.0) (asks.verdict ∙ none_judges asks.def.limits asks.was m.persistent asks.slip.size asks.depth (none q asks.def asks.defined))
+
 -- Lines: those that put something are answered by ok, and no others
 
-module _ (defs : List Defined) (s s' : Standing) (dids : List Did) where
+module _ (defs : List Defined) (no_policies : NoPolicies defs) (s s' : Standing) (dids : List Did) where
   ok_is_put : (w : What) (a : Answer) → LineFits defs s w a dids s' → is_ok a ≡ is_put w
   ok_is_put (Put q m) (say.Accepted id flowed dropped) fits = refl
   ok_is_put (Put q m) (say.Staged id flowed) fits = absurd fits
-  ok_is_put (Put q m) (say.Rejected depth) fits = absurd fits
-  ok_is_put (Put q m) (say.Blocked depth) fits = absurd fits
+  ok_is_put (Put q m) (say.Rejected depth) fits = let e : verdict.Rejected depth ≡ verdict.Admitted = refuses_none defs s q m (verdict.Rejected depth) dids s' no_policies fits in absurd (cc)
+  ok_is_put (Put q m) (say.Blocked depth) fits = let e : verdict.Blocked depth ≡ verdict.Admitted = refuses_none defs s q m (verdict.Blocked depth) dids s' no_policies fits in absurd (cc)
   ok_is_put (Put q m) say.Failed fits = absurd fits
   ok_is_put (Put q m) say.TooLong fits = absurd fits
   ok_is_put (Put q m) (say.Got id n) fits = absurd fits
@@ -343,29 +366,29 @@ body op = body_of op.what
 abbrev one_put : Op → ℕ
 one_put op = cond (is_put op.what) 1 0
 
-lines_bytes : (defs : List Defined) (s s' : Standing) (dids : List Did) (ops : List Op) (answers : List Answer) → LinesFit defs s ops answers dids s' → bytes_put ops answers ≡ sum_by body ops
-lines_bytes defs s s' dids [] [] fits = refl
-lines_bytes defs s s' dids [] (a ∷ answers) fits = absurd fits
-lines_bytes defs s s' dids (op ∷ ops) [] fits = absurd fits
-lines_bytes defs s s' dids (op ∷ ops) (a ∷ answers) fits =
-    ap₂ (λ (m n : ℕ). m + n) (bytes_are defs s fits.1 fits.0 op.what a fits.3) (lines_bytes defs fits.1 s' fits.2 ops answers fits.4)
+lines_bytes : (defs : List Defined) (no_policies : NoPolicies defs) (s s' : Standing) (dids : List Did) (ops : List Op) (answers : List Answer) → LinesFit defs s ops answers dids s' → bytes_put ops answers ≡ sum_by body ops
+lines_bytes defs no_policies s s' dids [] [] fits = refl
+lines_bytes defs no_policies s s' dids [] (a ∷ answers) fits = absurd fits
+lines_bytes defs no_policies s s' dids (op ∷ ops) [] fits = absurd fits
+lines_bytes defs no_policies s s' dids (op ∷ ops) (a ∷ answers) fits =
+    ap₂ (λ (m n : ℕ). m + n) (bytes_are defs no_policies s fits.1 fits.0 op.what a fits.3) (lines_bytes defs no_policies fits.1 s' fits.2 ops answers fits.4)
     ∙ sym (sum_by-cons body op ops)
 
 abbrev one_ok : ℕ × Answer → ℕ
 one_ok line = cond (is_ok line.1) 1 0
 
-lines_ok : (defs : List Defined) (s s' : Standing) (dids : List Did) (ops : List Op) (answers : List Answer) → LinesFit defs s ops answers dids s' → sum_by one_ok (told ops answers) ≡ sum_by one_put ops
-lines_ok defs s s' dids [] [] fits = refl
-lines_ok defs s s' dids [] (a ∷ answers) fits = absurd fits
-lines_ok defs s s' dids (op ∷ ops) [] fits = absurd fits
-lines_ok defs s s' dids (op ∷ ops) (a ∷ answers) fits =
+lines_ok : (defs : List Defined) (no_policies : NoPolicies defs) (s s' : Standing) (dids : List Did) (ops : List Op) (answers : List Answer) → LinesFit defs s ops answers dids s' → sum_by one_ok (told ops answers) ≡ sum_by one_put ops
+lines_ok defs no_policies s s' dids [] [] fits = refl
+lines_ok defs no_policies s s' dids [] (a ∷ answers) fits = absurd fits
+lines_ok defs no_policies s s' dids (op ∷ ops) [] fits = absurd fits
+lines_ok defs no_policies s s' dids (op ∷ ops) (a ∷ answers) fits =
     sum_by-cons one_ok (op.line, a) (told ops answers)
-    ∙ ap₂ (λ (b : Bool) (n : ℕ). cond b 1 0 + n) (ok_is_put defs s fits.1 fits.0 op.what a fits.3) (lines_ok defs fits.1 s' fits.2 ops answers fits.4)
+    ∙ ap₂ (λ (b : Bool) (n : ℕ). cond b 1 0 + n) (ok_is_put defs no_policies s fits.1 fits.0 op.what a fits.3) (lines_ok defs no_policies fits.1 s' fits.2 ops answers fits.4)
     ∙ sym (sum_by-cons one_put op ops)
 
 -- Phases
 
-module _ (defs : List Defined) where
+module _ (defs : List Defined) (no_policies : NoPolicies defs) where
   abbrev Stories : List Story → Type 0
   Stories stories = (i : ℕ) (s : Story) → slice_get stories i ≡ Some s → IsStory defs s
 
@@ -376,14 +399,14 @@ module _ (defs : List Defined) where
   stories_bytes [] are = refl
   stories_bytes (s ∷ stories) are =
       sum_by-cons (λ (x : Story). bytes_put x.ops x.answers) s stories
-      ∙ ap₂ (λ (m n : ℕ). m + n) (lines_bytes defs _ s.end s.dids s.ops s.answers (are 0 s refl)) (stories_bytes stories (λ i x e. are (suc i) x e))
+      ∙ ap₂ (λ (m n : ℕ). m + n) (lines_bytes defs no_policies _ s.end s.dids s.ops s.answers (are 0 s refl)) (stories_bytes stories (λ i x e. are (suc i) x e))
       ∙ sym (sum_by-append body s.ops (ops_in (lines_of stories)))
 
   stories_ok : (stories : List Story) → Stories stories → sum_by one_ok (flat_map (λ (s : Story). told s.ops s.answers) stories) ≡ sum_by one_put (ops_in (lines_of stories))
   stories_ok [] are = refl
   stories_ok (s ∷ stories) are =
       sum_by-append one_ok (told s.ops s.answers) (flat_map (λ (x : Story). told x.ops x.answers) stories)
-      ∙ ap₂ (λ (m n : ℕ). m + n) (lines_ok defs _ s.end s.dids s.ops s.answers (are 0 s refl)) (stories_ok stories (λ i x e. are (suc i) x e))
+      ∙ ap₂ (λ (m n : ℕ). m + n) (lines_ok defs no_policies _ s.end s.dids s.ops s.answers (are 0 s refl)) (stories_ok stories (λ i x e. are (suc i) x e))
       ∙ sym (sum_by-append one_put s.ops (ops_in (lines_of stories)))
 
   -- the bytes of what was put are those of what the lines put

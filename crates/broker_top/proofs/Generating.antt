@@ -1,5 +1,5 @@
 -- the script that a number makes may be run, and what is told of the run
-use Rattle.std.proofs.Common.{◌≡◌, ℕ, ◌+◌, ◌<◌, ◌≤◌, ◌^◌, ◌&&◌, arith, Bool, true, false, cond, inl, inr, Result, Ok, Err, Option, Some, List, [], ◌∷◌, codes, filter, length, map, refl, sym, ap, ◌∙◌, subst}
+use Rattle.std.proofs.Common.{◌≡◌, ℕ, zero, suc, ◌+◌, ◌<◌, ◌≤◌, ◌^◌, ◌&&◌, arith, Bool, true, false, cond, inl, inr, Result, Ok, Err, Option, Some, List, [], ◌∷◌, codes, filter, length, map, refl, sym, ap, ◌∙◌, subst}
 use Rattle.std.specs.List.{list_all, range_with_len, sum_by}
 use Rattle.std.proofs.lemmas.List.FromFn.{length-range_with_len}
 use Rattle.std.proofs.lemmas.List.Sums.{sum_by-cons}
@@ -31,7 +31,7 @@ use Rattle.broker_top.specs.World.{World}
 use Rattle.command_status.specs.declared.status.Status.{Status}
 use Rattle.command_status.specs.declared.status.Status.TheVariants.{Done, NoMemory}
 use Rattle.broker_top.specs.declared.tally.Tally.{Tally}
-use Rattle.broker_top.proofs.Bytes.{phases_bytes, phases_ok}
+use Rattle.broker_top.proofs.Bytes.{NoPolicies, phases_bytes, phases_ok}
 use Rattle.broker_top.proofs.Ended.{ran_of}
 
 -- Lines
@@ -106,9 +106,14 @@ module _ (number count : ℕ) (few : count ≤ 100000) where
 
 -- The summary
 
+-- its queue has no policy
+no_policies : NoPolicies (queue ∷ [])
+no_policies zero def at = let same : queue ≡ def = (cc) in ap (λ (d : Defined). d.limits.policy) (sym same)
+no_policies (suc q) def at = absurd (cc)
+
 -- the bytes of what was put are those of the messages that are drawn
 pub bytes_drawn : (number count : ℕ) (seats seats' : Seats) (accounts : List Account) → ArePhases (queue ∷ []) (nothing (queue ∷ [])) seats (phases number count) accounts seats' → all_bytes accounts ≡ body_bytes number count
-bytes_drawn number count seats seats' accounts are = phases_bytes (queue ∷ []) (nothing (queue ∷ [])) seats seats' (phases number count) accounts are ∙ puts_bytes number count
+bytes_drawn number count seats seats' accounts are = phases_bytes (queue ∷ []) no_policies (nothing (queue ∷ [])) seats seats' (phases number count) accounts are ∙ puts_bytes number count
 
 module _ (number count : ℕ) (result : Status) (handed back : List Seat) (seats seats' : Seats) (opened : seats ≡ map Some handed) (closed : back ≡ standing seats') (written written' : Option (List ℕ)) (faults faults' : ℕ) where
   -- some phases ran, and then memory ran out
@@ -129,7 +134,7 @@ module _ (number count : ℕ) (result : Status) (handed back : List Seat) (seats
           seats = tallied.after;
           are_phases = subst (λ (s : Seats). ArePhases (queue ∷ []) (nothing (queue ∷ [])) s (phases number count) tallied.accounts tallied.after) opened tallied.are_phases;
           came = record { left = seats'; same = tallied.same; came = closed };
-          puts = phases_ok (queue ∷ []) (nothing (queue ∷ [])) seats tallied.after (phases number count) tallied.accounts tallied.are_phases ∙ puts_all number count;
+          puts = phases_ok (queue ∷ []) no_policies (nothing (queue ∷ [])) seats tallied.after (phases number count) tallied.accounts tallied.are_phases ∙ puts_all number count;
           bytes = bytes_drawn number count seats tallied.after tallied.accounts tallied.are_phases;
           told = same_line;
         },

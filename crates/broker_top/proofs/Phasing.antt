@@ -1,9 +1,11 @@
 -- phases that go on, one after the other
-use Rattle.std.proofs.Common.{◌≡◌, ℕ, suc, ◌+◌, ◌≤◌, ◌==◌, ◌&&◌, arith, Bool, true, false, cond, Option, Some, None, List, [], ◌∷◌, ◌++◌, append-nil, append_assoc, length, map, take, filter, refl, sym, ap, ap₂, ◌∙◌, subst}
+use Rattle.std.proofs.Common.{◌≡◌, ℕ, zero, suc, ◌+◌, ◌≤◌, ◌==◌, ◌&&◌, arith, Bool, true, false, cond, Option, Some, None, List, [], ◌∷◌, ◌++◌, append-nil, append_assoc, length, map, take, filter, refl, sym, ap, ap₂, ◌∙◌, subst}
 use Rattle.std.specs.List.{All, AllByRecursion, count_by, list_all}
 use Rattle.std.proofs.lemmas.List.Folds.{list_all-append}
 use Rattle.std.proofs.lemmas.List.Sums.{sum_by-append, sum_by-cons}
 use Rattle.std.proofs.Math.Seq.{take-append_seam}
+use Rattle.queue_model.specs.declared.queues.Policy.{Policy}
+use Rattle.queue_model.specs.declared.queues.Policy.TheVariants as policy
 use Rattle.queue_model.specs.declared.rows.Row.{Row}
 use Rattle.any_queue.specs.Parting.{IsOfLists}
 use Rattle.defs_read.specs.Allowed.{HasPriorities, IsAllowed}
@@ -19,6 +21,7 @@ use Rattle.script_read.specs.declared.lines.Op.{Op}
 use Rattle.script_read.specs.declared.lines.What.{What}
 use Rattle.script_read.specs.declared.lines.What.TheVariants.{Put, Take, Close, Ack, Release, Lock, Unlock, Steal, Begin, Commit, Rollback}
 use Rattle.target_core.specs.Seats.{Seat, Seats, seat_at}
+use Rattle.workers_core.specs.Drops.{IsServedPolicy, ServesPolicies}
 use Rattle.workers_core.specs.Jobs.{puts_to}
 use Rattle.workers_core.specs.Made.{IsServed, puts_in}
 use Rattle.account_core.specs.Accounts.{Account, SameSeats, SameTarget}
@@ -51,6 +54,21 @@ lists_built (d ∷ defs) e all = (
   kind_built d.kind (both_first (is_built_kind d.kind) (is_built_policy d.limits.policy) (both_first (is_built_queue d) (list_all is_built_queue defs) e)) (all 0 d (omega arith)).slips.priorities,
   lists_built defs (both_second (is_built_queue d) (list_all is_built_queue defs) e) (λ k x low. all (suc k) x (omega (arith, low))),
 )
+
+policy_built : (p : Policy) → is_built_policy p ≡ true → IsServedPolicy p
+policy_built policy.None e = tt
+policy_built policy.Ring e = tt
+policy_built policy.FlowControl e = tt
+policy_built policy.Reject e = tt
+policy_built policy.FlowToDisk e = absurd (cc)
+
+policies_built : (defs : List Defined) → list_all is_built_queue defs ≡ true → ServesPolicies defs
+policies_built [] e q def at = absurd (cc)
+policies_built (d ∷ defs) e zero def at =
+    let same : d ≡ def = (cc) in
+    subst (λ (x : Defined). IsServedPolicy x.limits.policy) same
+    (policy_built d.limits.policy (both_second (is_built_kind d.kind) (is_built_policy d.limits.policy) (both_first (is_built_queue d) (list_all is_built_queue defs) e)))
+policies_built (d ∷ defs) e (suc q) def at = policies_built defs (both_second (is_built_queue d) (list_all is_built_queue defs) e) q def at
 
 line_built : (w : What) → is_built_line w ≡ true → IsServed w
 line_built (Put q m) e = tt
@@ -184,6 +202,7 @@ module _ (script : Script) (seats mid : Seats) (w w1 : Option (List ℕ)) (lefts
   may_play runs = record {
     allowed = runs.defs;
     lists = lists_built script.defs runs.queues runs.defs.each;
+    policies = policies_built script.defs runs.queues;
     phase = g.each.0;
     served = g.served.0;
     stay = g.stay;

@@ -15,13 +15,13 @@ is_built_kind (Priority n) = true
 is_built_kind (Sorted key) = false
 is_built_kind (LastValue key) = false
 
--- the policy that is built
+-- the policies that are built: all but that which keeps bodies on disk alone
 abbrev pub is_built_policy : Policy → Bool
 is_built_policy policy.None = true
-is_built_policy policy.Ring = false
-is_built_policy policy.FlowControl = false
+is_built_policy policy.Ring = true
+is_built_policy policy.FlowControl = true
 is_built_policy policy.FlowToDisk = false
-is_built_policy policy.Reject = false
+is_built_policy policy.Reject = true
 
 -- the queue is built
 abbrev pub is_built_queue : Defined → Bool

@@ -17,6 +17,7 @@ use Rattle.account_core.specs.Phases.{IsPhase, nothing}
 use Rattle.account_core.specs.Texts.{account_text}
 use Rattle.phase_queues.specs.Left.{AllMayStay, ids_left, many_left, rows_left}
 use Rattle.phase_core.specs.Phased.{FewEntries, GainsPuts, IdsOnce, Lefts}
+use Rattle.workers_core.specs.Drops.{ServesPolicies}
 use Rattle.phase_actors.specs.Cast.{HasServedOps}
 use Rattle.broker_top.specs.declared.phases.Stopped.{Stopped}
 use Rattle.broker_top.specs.declared.phases.Stopped.TheVariants as stopped
@@ -32,6 +33,7 @@ pub record IsEmpty (defs : List Defined) (lefts : Lefts) : Type 0 where
 pub record MayPlay (defs : List Defined) (lefts : Lefts) (actors : Actors) : Type 0 where
   pub allowed : AreAllowed defs
   pub lists : AllByRecursion (λ def. IsOfLists def.kind) defs
+  pub policies : ServesPolicies defs
   pub phase : IsAllowedPhase defs false actors
   pub served : AllByRecursion HasServedOps actors
   pub stay : AllMayStay defs lefts

@@ -26,8 +26,8 @@ fn is_built_policy(policy: Policy) -> bool
     ensures { result ≡ is_built_policy policy }
 {
     match policy {
-        Policy::None => true,
-        Policy::Ring | Policy::FlowControl | Policy::FlowToDisk | Policy::Reject => false,
+        Policy::None | Policy::Ring | Policy::FlowControl | Policy::Reject => true,
+        Policy::FlowToDisk => false,
     }
 }
 

@@ -29,4 +29,6 @@ mod line_tests;
 #[cfg(test)]
 mod phase_tests;
 #[cfg(test)]
+mod policy_tests;
+#[cfg(test)]
 mod tests;

@@ -146,7 +146,9 @@ const RUNS: &[(&[&str], Status, &str)] = &[
         "fault: line 3: BadValue\n",
     ),
     (
-        &["{\"queues\":[{\"name\":\"p\"},{\"name\":\"q\",\"overflowPolicy\":\"RING\"}]}\n"],
+        &[
+            "{\"queues\":[{\"name\":\"p\",\"overflowPolicy\":\"RING\"},{\"name\":\"q\",\"overflowPolicy\":\"FLOW_TO_DISK\"}]}\n",
+        ],
         Status::InputRefused,
         "fault: line 1: NotBuilt\n",
     ),

@@ -1,10 +1,27 @@
--- consumers, and what a delivery tells
-use Rattle.std.specs.Prelude.{◌≡◌, ℕ, ◌+◌, ◌-◌, ◌≤◌, Bool, false, nat_lt, nat_le, if◌then◌else◌, Option, Some, None, List, [], ◌∷◌, length}
+-- queues by their definitions, consumers, and what a delivery tells
+use Rattle.std.specs.Prelude.{◌≡◌, ℕ, ◌+◌, ◌-◌, ◌≤◌, Bool, false, nat_lt, nat_le, if◌then◌else◌, Option, Some, None, List, [], ◌∷◌, length, slice_get}
 use Rattle.acts_core.specs.Load.{Load}
+use Rattle.acts_core.specs.Sight.{Build, Kind, Listed}
+use Rattle.acts_core.specs.Sight as kinds
 use Rattle.message_core.specs.Spelling.{Content, content}
 use Rattle.defs_read.specs.Defined.{Defined}
+use Rattle.defs_read.specs.declared.defs.QueueKind.{QueueKind}
+use Rattle.defs_read.specs.declared.defs.QueueKind.TheVariants as asked
 use Rattle.target_core.specs.Seats.{Seat, left_of, sum_of}
 use Rattle.target_core.specs.declared.deliveries.Delivery.{Delivery}
+
+-- the kind of queue that a definition asks for
+abbrev pub kind_of : QueueKind → Kind
+kind_of asked.Standard = Listed
+kind_of (asked.Priority n) = Listed
+kind_of (asked.Sorted key) = kinds.Sorted
+kind_of (asked.LastValue key) = kinds.LastValue
+
+-- each queue is of the kind that its definition asks for
+abbrev pub AreOfKinds : List Defined → List Build → Type 0
+AreOfKinds queues builds =
+    (q : ℕ) (def : Defined) (b : Build)
+    → slice_get queues q ≡ Some def → slice_get builds q ≡ Some b → b.kind ≡ kind_of def.kind
 
 -- the queue of consumer c, counted over all queues from queue q on, and its number there
 abbrev pub place_from : ℕ → List Defined → ℕ → Option (ℕ × ℕ)

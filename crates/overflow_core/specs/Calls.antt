@@ -1,8 +1,8 @@
 -- which calls a decision is
-use Rattle.std.specs.Prelude.{◌≡◌, ℕ, ◌⊎◌, Bool, true, false, if◌then◌else◌, List, [], ◌∷◌}
-use Rattle.acts_core.specs.Calls.{Call, CallDepth, CallReserve, CallGiveBack, CallOldest, Answer, IsDepth, IsGot, IsEmpty, IsDone}
+use Rattle.std.specs.Prelude.{◌≡◌, ℕ, ◌⊎◌, Bool, true, false}
+use Rattle.acts_core.specs.Calls.{CallDepth, CallReserve, CallGiveBack, CallOldest, Answer, IsDepth, IsGot, IsEmpty, IsDone}
 use Rattle.acts_core.specs.Load.{Load}
-use Rattle.acts_core.specs.Runs.{Ran}
+use Rattle.acts_core.specs.Meaning.{Called}
 use Rattle.acts_core.specs.Sight.{Build, Sight}
 use Rattle.queue_model.specs.declared.queues.Depth.{Depth}
 use Rattle.queue_model.specs.declared.queues.Limits.{Limits}
@@ -11,30 +11,35 @@ use Rattle.overflow_core.specs.declared.verdicts.Trim.TheVariants.{Fits, Over, N
 use Rattle.overflow_core.specs.declared.verdicts.Verdict.{Verdict}
 use Rattle.overflow_core.specs.Limits.{judged, is_refusal, is_ring, is_beyond}
 
--- the calls of an admission: an entry is reserved, and given back where the put is refused
-abbrev pub calls_of : ℕ → Depth → Bool → List (Call × Answer)
-calls_of size d refused = (CallReserve size, IsDepth d) ∷ (if refused then ((CallGiveBack size, IsDone) ∷ []) else [])
+-- a reservation was given back where its put is refused; else nothing more was done
+abbrev pub GivesBack : Build → Sight → Sight → ℕ → Bool → Type 0
+GivesBack build old new size true = Called build old new (CallGiveBack size) IsDone
+GivesBack build old new size false = new ≡ old
 
--- A put of this size was judged by the depth that its reservation showed; was and now tell whether its producer is
--- stopped, before and after.
+-- A put of this size was judged by the depth that its own reservation showed, and its reservation was given back where it
+-- is refused; was and now tell whether its producer is stopped, before and after.
 pub record Admits (build : Build) (old new : Sight) (limits : Limits) (was now persistent : Bool) (size : ℕ) (v : Verdict) : Type 0 where
   pub shown : Depth
   pub verdict : (v, now) ≡ judged limits was persistent size shown
-  pub ran : Ran build old new (calls_of size shown (is_refusal v))
+  pub between : Sight
+  pub reserved : Called build old between (CallReserve size) (IsDepth shown)
+  pub given : GivesBack build between new size (is_refusal v)
 
 -- a ring was found beyond its limits, and its oldest entry was asked for, with this answer
 pub record Trims (build : Build) (old new : Sight) (limits : Limits) (answer : Answer) : Type 0 where
   pub ring : is_ring limits ≡ true
   pub shown : Depth
   pub beyond : is_beyond limits shown ≡ true
-  pub ran : Ran build old new ((CallDepth, IsDepth shown) ∷ (CallOldest, answer) ∷ [])
+  pub between : Sight
+  pub looked : Called build old between CallDepth (IsDepth shown)
+  pub asked : Called build between new CallOldest answer
 
 -- a ring was found within its limits
 pub record IsWithin (build : Build) (old new : Sight) (limits : Limits) : Type 0 where
   pub ring : is_ring limits ≡ true
   pub shown : Depth
   pub within : is_beyond limits shown ≡ false
-  pub ran : Ran build old new ((CallDepth, IsDepth shown) ∷ [])
+  pub looked : Called build old new CallDepth (IsDepth shown)
 
 -- what was found of a queue, and what was done; nothing is done where it is no ring
 abbrev pub Trimmed : {C : Type 0} → (C → Load) → Build → Sight → Sight → Limits → Trim C → Type 0

@@ -15,16 +15,13 @@ use Rattle.target_core.specs.Seats.{Seat, Seats, seat_at}
 use Rattle.defs_read.specs.Allowed.{AreAllowed}
 use Rattle.defs_read.specs.Defined.{Defined, consumers_in}
 use Rattle.defs_read.specs.declared.defs.ConsumerDef.{ConsumerDef}
-use Rattle.defs_read.specs.declared.defs.QueueKind.{QueueKind}
-use Rattle.defs_read.specs.declared.defs.QueueKind.TheVariants.{Standard, Priority, Sorted, LastValue}
-use Rattle.any_queue.specs.Parting.{IsOfLists}
 use Rattle.script_read.specs.Allowed.{HasConsumer, HasOwnOps, IsDefined, IsOpOf, ops_in}
 use Rattle.script_read.specs.Phases.{Actors}
 use Rattle.script_read.specs.declared.lines.Op.{Op}
 use Rattle.script_read.specs.declared.lines.What.{What}
 use Rattle.script_read.specs.declared.lines.What.TheVariants.{Put, Take, Close, Ack, Release, Lock, Unlock, Steal, Begin, Commit, Rollback}
 use Rattle.account_core.specs.Accounts.{SameTarget}
-use Rattle.workers_core.specs.Made.{GoesByNoHeader, puts_in}
+use Rattle.workers_core.specs.Made.{puts_in}
 use Rattle.phase_actors.specs.Cast.{IsCast}
 use Rattle.phase_actors.specs.Passes.{AllMayCast, AreSplit, IsFreshPass, places_of}
 use Rattle.phase_actors.specs.Targets.{HasTargets, LacksTargets, NamesWithin, SameTargets, TakesBack, all_back, first_target, is_named, names}
@@ -199,18 +196,6 @@ back_step own c all left a now new e takes =
 pub back_none : {A : Type 0} (own : A → Seats) (c : ℕ) (left : List A) (now : Option Seat) → length left ≡ 0 → all_back c now (map own left) ≡ now
 back_none own c [] now none = refl
 back_none own c (a ∷ left) now none = absurd (omega (arith, none))
-
--- Definitions
-
-no_header : (kind : QueueKind) → IsOfLists kind → GoesByNoHeader kind
-no_header Standard is = tt
-no_header (Priority n) is = tt
-no_header (Sorted key) is = absurd is
-no_header (LastValue key) is = absurd is
-
-pub no_headers : (defs : List Defined) → AllByRecursion (λ d. IsOfLists d.kind) defs → AllByRecursion (λ d. GoesByNoHeader d.kind) defs
-no_headers [] each = tt
-no_headers (d ∷ defs) each = (no_header d.kind each.0, no_headers defs each.1)
 
 -- An actor that was made
 

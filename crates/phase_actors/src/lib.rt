@@ -2,6 +2,7 @@
 #![tactic(auto)]
 
 mod casting;
+mod rooms;
 mod splitting;
 mod targets;
 

@@ -87,6 +87,7 @@ pub(crate) fn give_back(actors: Vec<Actor<AnyQueue<Parcel>>>, roster: &mut Roste
             passes: _passes,
             held: _held,
             roster: own,
+            stopped: _stopped,
             log: _log,
             drops: _drops,
             body: _body,

@@ -24,7 +24,7 @@ use Rattle.account_core.specs.Counting.{puts_among, puts_by, with_ids}
 use Rattle.account_core.specs.Laws.{ClosedPlayed}
 use Rattle.account_core.specs.Phases.{AllOpen, IsPhase}
 use Rattle.account_core.specs.Played.{IsGathered, IsPlayed, Played, rest_of}
-use Rattle.account_core.specs.Settling.{OpensCount, PutsOnce, RowsCount, Settles, StatesNamed}
+use Rattle.account_core.specs.Settling.{FewEntered, OpensCount, PutsOnce, RowsCount, Settles, StatesNamed}
 use Rattle.account_core.specs.Stories.{Story}
 use Rattle.account_core.specs.Texts.{LogsTell, RestsTell}
 use Rattle.phase_queues.specs.Closed.{AreLast, AreOfRows}
@@ -46,7 +46,7 @@ module _ (defs : List Defined) (lefts : Lefts) (actors : Actors) (owns : List Se
     (made : (q : ℕ) (s : Sight) → slice_get (map sight_in begun) q ≡ Some s → s.made ≡ length actors + 1)
     (once : IdsOnce lefts (ops_in actors))
     (played_it : HavePlayed defs (map build_in queues) actors owns (map sight_in begun) (map sight_in lasts) left back logs)
-    (settles : Settles) (counts_rows : RowsCount) (counts_opens : OpensCount) where
+    (settles : Settles) (counts_rows : RowsCount) (few_entered : FewEntered) (counts_opens : OpensCount) where
   stories : List Story
   stories = played_it.stories
 
@@ -78,12 +78,13 @@ module _ (defs : List Defined) (lefts : Lefts) (actors : Actors) (owns : List Se
     rests_at : (r : ℕ) (x : Row) → row_at (after (sight_in boss).opening (sight_in boss).seen) r ≡ Some x → Rests x.state
     rests_at r x = settles defs q played_it.stories (build_in queue) (sight_in boss).opening (sight_in boss).seen r x opened_at.opens.fits played_it.fit gathered_at puts_once
 
-    rows_now : (test : ℕ → Bool) → with_ids test (rest_of (played queue boss)).rows ≡ ids_left q test lefts + puts_among q test (ops_in actors)
+    rows_now : (test : ℕ → Bool) → with_ids test (rest_of (played queue boss)).rows ≤ ids_left q test lefts + puts_among q test (ops_in actors)
     rows_now test =
         let a = began_with test in
         let b = put_by test in
         let c = counts_rows defs q played_it.stories (build_in queue) (sight_in boss).opening (sight_in boss).seen test played_it.fit gathered_at in
-        omega (arith, a, b, c)
+        let d = few_entered q test played_it.stories in
+        omega (arith, a, b, c, d)
 
     last_at : IsLast (sight_in boss)
     last_at =
@@ -117,7 +118,7 @@ module _ (defs : List Defined) (lefts : Lefts) (actors : Actors) (owns : List Se
   ids_after lefts' long of q test = elim (slice_get_cases (all_played queues lasts) q).1 [
     | inl (p, within, at, read) ↦
         let e = played_by queues lasts q p at in
-        let now : with_ids test (rest_of p).rows ≡ ids_left q test lefts + puts_among q test (ops_in actors) = subst (λ (z : Played). with_ids test (rest_of z).rows ≡ ids_left q test lefts + puts_among q test (ops_in actors)) e.is (rows_now q e.queue e.boss e.queue_at e.boss_at test) in
+        let now : with_ids test (rest_of p).rows ≤ ids_left q test lefts + puts_among q test (ops_in actors) = subst (λ (z : Played). with_ids test (rest_of z).rows ≤ ids_left q test lefts + puts_among q test (ops_in actors)) e.is (rows_now q e.queue e.boss e.queue_at e.boss_at test) in
         let few = of.ids q test p at in
         omega (arith, now, few)
     | inr (past, none) ↦

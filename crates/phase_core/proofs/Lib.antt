@@ -9,3 +9,4 @@ pub mod Queues
 pub mod Sums
 pub mod Opening
 pub mod Accounts
+pub mod Rows

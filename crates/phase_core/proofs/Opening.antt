@@ -1,7 +1,6 @@
 -- the queues as they were opened, and the actors as they were made over them
 use Rattle.std.proofs.Common.{◌≡◌, inl, inr, ℕ, zero, suc, ◌<◌, Some, List, [], ◌∷◌, length, map, slice_get, refl, sym, ap, ◌∙◌, subst, ⊎_elim, arith}
 use Rattle.std.specs.Prelude.{slice_index}
-use Rattle.std.specs.List.{AllByRecursion}
 use Rattle.std.specs.Option.{option_map}
 use Rattle.std.proofs.lemmas.Bool.{cases_eq}
 use Rattle.std.proofs.lemmas.List.{get_or_past, length-map}
@@ -11,7 +10,7 @@ use Rattle.queue_model.specs.declared.queues.Queue.{Queue}
 use Rattle.queue_model.specs.declared.deeds.Deed.{Deed}
 use Rattle.queue_model.specs.declared.rows.Row.{Row}
 use Rattle.queue_model.specs.History.{Legal, own}
-use Rattle.acts_core.specs.Sight.{Listed, Build, Sight}
+use Rattle.acts_core.specs.Sight.{Build, Sight}
 use Rattle.txn_core.specs.declared.parcels.Parcel.{Parcel}
 use Rattle.defs_read.specs.Defined.{Defined}
 use Rattle.defs_read.specs.Slips.{lists_of}
@@ -23,6 +22,7 @@ use Rattle.entry_table.specs.Rule.{below}
 use Rattle.any_queue.specs.declared.kinds.AnyPass.{AnyPass}
 use Rattle.any_queue.specs.declared.kinds.AnyQueue.{AnyQueue}
 use Rattle.any_queue.specs.Kinds.{build_in, sight_in}
+use Rattle.line_core.specs.Places.{AreOfKinds, kind_of}
 use Rattle.workers_core.specs.Made.{puts_in}
 use Rattle.account_core.specs.Phases.{AllOpen}
 use Rattle.phase_queues.specs.Opened.{AreOpened, HasRoom, all_played, played}
@@ -56,12 +56,17 @@ mem_below (suc n) k less = ⊎_elim
     (cases_eq k n)
 
 module _ (defs : List Defined) (lefts : Lefts) (puts : List ℕ) (queues : List (AnyQueue Parcel)) (bosses : List AnyPass) (opened : AreOpened defs lefts puts queues bosses) where
-  listed : (queues' : List (AnyQueue Parcel)) → ((q : ℕ) (queue : AnyQueue Parcel) → slice_get queues' q ≡ Some queue → (build_in queue).kind ≡ Listed) → AllByRecursion (λ q. (build_in q).kind ≡ Listed) queues'
-  listed [] each = tt
-  listed (queue ∷ queues') each = (each zero queue refl, listed queues' (λ q. each (suc q)))
-
-  pub all_listed : AllByRecursion (λ q. (build_in q).kind ≡ Listed) queues
-  all_listed = listed queues (λ q queue at. ap (λ (b : Build). b.kind) (opened.builds q queue at))
+  -- each is of the kind that its definition asks for
+  pub are_of_kinds : (rows : List (List Row)) → AllOpen defs rows (all_played queues bosses) → AreOfKinds defs (map build_in queues)
+  are_of_kinds rows opens q def b at_def at_b =
+      let within = slice_get_within defs q def at_def in
+      let queue = there queues q (omega (arith, within, opened.as_many)) in
+      let boss = there bosses q (omega (arith, within, opened.passes)) in
+      let o = opens_at defs rows (all_played queues bosses) q (played queue.0 boss.0) opens (played_at queues bosses q queue.0 boss.0 queue.1 boss.1) in
+      let same : o.def ≡ def = same_Some o.def def (sym o.def_at ∙ at_def) in
+      let at : slice_get (map build_in queues) q ≡ Some (build_in queue.0) = slice_get-map build_in queues q ∙ ap (option_map build_in) queue.1 in
+      let built : build_in queue.0 ≡ b = same_Some (build_in queue.0) b (sym at ∙ at_b) in
+      ap (λ (z : Build). z.kind) (sym built) ∙ o.opens.kind ∙ ap (λ (d : Defined). kind_of d.kind) same
 
   module _ (rows : List (List Row)) (actors : Actors) (opens : AllOpen defs rows (all_played queues bosses)) (counted : Counted (length defs) (ops_in actors) puts) where
     may_one : (q : ℕ) (def : Defined) (boss : AnyPass) → slice_get defs q ≡ Some def → slice_get bosses q ≡ Some boss → MayCast def q actors 1 (sight_in boss)

@@ -9,6 +9,7 @@ use Rattle.acts_core.specs.Sight.{Build, Sight}
 use Rattle.defs_read.specs.Defined.{Defined}
 use Rattle.script_read.specs.declared.lines.Op.{Op}
 use Rattle.report_core.specs.declared.answers.Answer.{Answer}
+use Rattle.report_core.specs.declared.answers.Dropped.{Dropped}
 use Rattle.target_core.specs.Seats.{Seats}
 use Rattle.line_core.specs.Runs.{Ran, calls_on}
 use Rattle.workers_core.specs.Phases.{HasRun}
@@ -23,11 +24,11 @@ use Rattle.phase_core.specs.Playing.{AreUnused, HavePlayed}
 use Rattle.phase_core.proofs.Histories.{by_actors}
 use Rattle.phase_core.proofs.Places.{there}
 
--- Actors as what is seen of them: their names and lines, the numbers and answers in their logs, their passes and targets.
-module _ {A : Type 0} (name : A → List ℕ) (ops : A → List Op) (log : A → List (ℕ × Answer)) (sights : A → List Sight) (seats : A → Seats) (defs : List Defined) (builds : List Build) where
+-- Actors as what is seen of them: their names and lines, the numbers and answers in their logs, what they dropped, their passes and targets.
+module _ {A : Type 0} (name : A → List ℕ) (ops : A → List Op) (log : A → List (ℕ × Answer)) (drops : A → List Dropped) (sights : A → List Sight) (seats : A → Seats) (defs : List Defined) (builds : List Build) where
   -- what the run of one is
   abbrev pub Run : A → A → Type 0
-  Run a b = (name b ≡ name a) × HasRun defs builds (sights a) (seats a) (ops a) (log b) (sights b) (seats b)
+  Run a b = (name b ≡ name a) × HasRun defs builds (sights a) (seats a) (ops a) (log b) (drops b) (sights b) (seats b)
 
   -- its story
   abbrev story_of : (a b : A) → Run a b → Story
@@ -46,7 +47,7 @@ module _ {A : Type 0} (name : A → List ℕ) (ops : A → List Op) (log : A →
     pub fit : AreStories defs stories
     pub as_many : length stories ≡ length news
     pub each : (i : ℕ) (s : Story) → slice_get stories i ≡ Some s → (a : A) × (b : A) × (slice_get olds i ≡ Some a) × (slice_get news i ≡ Some b) × Tells a b s
-    pub tell : LogTold → (logs : List Log) → map (λ l. l.name) logs ≡ map name news → map (λ l. l.lines.items) logs ≡ map log news → LogsTell logs stories
+    pub tell : LogTold → (logs : List Log) → map (λ l. l.name) logs ≡ map name news → map (λ l. l.lines.items) logs ≡ map log news → map (λ l. l.drops.items) logs ≡ map drops news → LogsTell logs stories
 
   -- one story before the others
   told_more : (a b : A) (olds news : List A) → Run a b → Told olds news → Told (a ∷ olds) (b ∷ news)
@@ -70,14 +71,16 @@ module _ {A : Type 0} (name : A → List ℕ) (ops : A → List Op) (log : A →
         each zero s at = (a, b, refl, refl, subst (Tells a b) (same_Some (story_of a b run) s at) (record { ran = run.1.ran }))
         each (suc i) s at = told.each i s at
 
-        tell : LogTold → (logs : List Log) → map (λ l. l.name) logs ≡ map name (b ∷ news) → map (λ l. l.lines.items) logs ≡ map log (b ∷ news) → LogsTell logs (story_of a b run ∷ told.stories)
-        tell law [] named lined = absurd (cc)
-        tell law (l ∷ logs) named lined =
+        tell : LogTold → (logs : List Log) → map (λ l. l.name) logs ≡ map name (b ∷ news) → map (λ l. l.lines.items) logs ≡ map log (b ∷ news) → map (λ l. l.drops.items) logs ≡ map drops (b ∷ news) → LogsTell logs (story_of a b run ∷ told.stories)
+        tell law [] named lined gone = absurd (cc)
+        tell law (l ∷ logs) named lined gone =
             let first : l.name ≡ name b = (cc) in
             let lines : l.lines.items ≡ log b = (cc) in
             let names : map (λ x. x.name) logs ≡ map name news = (cc) in
+            let dropped : l.drops.items ≡ drops b = (cc) in
             let others : map (λ x. x.lines.items) logs ≡ map log news = (cc) in
-            (first ∙ run.0, lines ∙ law (ops a) (map (λ e. e.1) (log b)) (log b) run.1.numbers refl, told.tell law logs names others)
+            let more : map (λ x. x.drops.items) logs ≡ map drops news = (cc) in
+            (first ∙ run.0, lines ∙ law (ops a) (map (λ e. e.1) (log b)) (log b) run.1.numbers refl, dropped ∙ sym run.1.dropped, told.tell law logs names others more)
 
   -- the stories of all, where each has run
   pub tales : (olds news : List A) → length news ≡ length olds
@@ -92,9 +95,9 @@ module _ {A : Type 0} (name : A → List ℕ) (ops : A → List Op) (log : A →
     each = λ i s at. absurd (cc);
     tell = tell_none;
   } where
-    tell_none : LogTold → (logs : List Log) → map (λ l. l.name) logs ≡ [] → map (λ l. l.lines.items) logs ≡ [] → LogsTell logs []
-    tell_none law [] named lined = tt
-    tell_none law (l ∷ logs) named lined = absurd (cc)
+    tell_none : LogTold → (logs : List Log) → map (λ l. l.name) logs ≡ [] → map (λ l. l.lines.items) logs ≡ [] → map (λ l. l.drops.items) logs ≡ [] → LogsTell logs []
+    tell_none law [] named lined gone = tt
+    tell_none law (l ∷ logs) named lined gone = absurd (cc)
   tales [] (b ∷ news) long run = absurd (omega (arith, long))
   tales (a ∷ olds) [] long run = absurd (omega (arith, long))
   tales (a ∷ olds) (b ∷ news) long run =
@@ -148,8 +151,9 @@ module _ {A : Type 0} (name : A → List ℕ) (ops : A → List Op) (log : A →
       → HaveReturned given (map seats news) back
       → map (λ l. l.name) logs ≡ map name news
       → map (λ l. l.lines.items) logs ≡ map log news
+      → map (λ l. l.drops.items) logs ≡ map drops news
       → HavePlayed defs builds (map {B = List ℕ × List Op} (λ a. (name a, ops a)) olds) (map seats olds) before after given back logs
-  have_played law olds news before after given back logs long run unused made joined returned named lined =
+  have_played law olds news before after given back logs long run unused made joined returned named lined gone =
       let told = tales olds news long run in
       record {
         stories = told.stories;
@@ -161,28 +165,29 @@ module _ {A : Type 0} (name : A → List ℕ) (ops : A → List Op) (log : A →
         joined = joined;
         gathered = gathers olds news told before after unused joined made;
         returned = subst (λ (xs : List Seats). HaveReturned given xs back) (sym told.ended) returned;
-        tells = told.tell law logs named lined;
+        tells = told.tell law logs named lined gone;
       }
 
 -- the same, of actors that are given first
-pub played_of : {A : Type 0} (olds news : List A) (name : A → List ℕ) (ops : A → List Op) (log : A → List (ℕ × Answer)) (sights : A → List Sight) (seats : A → Seats) (defs : List Defined) (builds : List Build)
+pub played_of : {A : Type 0} (olds news : List A) (name : A → List ℕ) (ops : A → List Op) (log : A → List (ℕ × Answer)) (drops : A → List Dropped) (sights : A → List Sight) (seats : A → Seats) (defs : List Defined) (builds : List Build)
     (before after : List Sight) (given back : Seats) (logs : List Log) → LogTold
     → length news ≡ length olds
     → ((i : ℕ) (d : A) → i < length olds → (name (get_or news i d) ≡ name (get_or olds i d))
-    × HasRun defs builds (sights (get_or olds i d)) (seats (get_or olds i d)) (ops (get_or olds i d)) (log (get_or news i d)) (sights (get_or news i d)) (seats (get_or news i d)))
+    × HasRun defs builds (sights (get_or olds i d)) (seats (get_or olds i d)) (ops (get_or olds i d)) (log (get_or news i d)) (drops (get_or news i d)) (sights (get_or news i d)) (seats (get_or news i d)))
     → ((i : ℕ) (a : A) → slice_get olds i ≡ Some a → AreUnused before (i + 1) (sights a))
     → ((q : ℕ) (s : Sight) → slice_get before q ≡ Some s → s.made ≡ length news + 1)
     → HaveJoined (map sights news) before after
     → HaveReturned given (map seats news) back
     → map (λ l. l.name) logs ≡ map name news
     → map (λ l. l.lines.items) logs ≡ map log news
+    → map (λ l. l.drops.items) logs ≡ map drops news
     → HavePlayed defs builds (map (λ a. (name a, ops a)) olds) (map seats olds) before after given back logs
-played_of olds news name ops log sights seats defs builds before after given back logs law = have_played name ops log sights seats defs builds law olds news before after given back logs
+played_of olds news name ops log drops sights seats defs builds before after given back logs law = have_played name ops log drops sights seats defs builds law olds news before after given back logs
 
 -- an actor's passes after it ran are the caller's of the same queues
-pub after_run : (defs : List Defined) (builds : List Build) (before olds news : List Sight) (h : ℕ) (seats seats' : Seats) (ops : List Op) (log : List (ℕ × Answer)) → length builds ≡ length before
-    → AreUnused before h olds → HasRun defs builds olds seats ops log news seats' → AreOfCaller before h news
-after_run defs builds before olds news h seats seats' ops log long unused run = record { as_many = run.ran.as_many ∙ unused.as_many; each = each } where
+pub after_run : (defs : List Defined) (builds : List Build) (before olds news : List Sight) (h : ℕ) (seats seats' : Seats) (ops : List Op) (log : List (ℕ × Answer)) (drops : List Dropped) → length builds ≡ length before
+    → AreUnused before h olds → HasRun defs builds olds seats ops log drops news seats' → AreOfCaller before h news
+after_run defs builds before olds news h seats seats' ops log drops long unused run = record { as_many = run.ran.as_many ∙ unused.as_many; each = each } where
   each : (q : ℕ) (s t : Sight) → slice_get before q ≡ Some s → slice_get news q ≡ Some t → IsOfCaller s.opening h t
   each q s t at_s at_t =
       let within = slice_get_within before q s at_s in

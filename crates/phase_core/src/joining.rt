@@ -56,7 +56,7 @@ fn join_passes(queues: &[AnyQueue<Parcel>], bosses: &mut Vec<AnyPass>, passes: V
 }
 
 /// Gives back what an actor had that has run: its passes to the bosses, and its targets to the roster. What is left is
-/// its log.
+/// its log, with what it dropped.
 fn join_actor(
     queues: &[AnyQueue<Parcel>],
     bosses: &mut Vec<AnyPass>,
@@ -76,7 +76,8 @@ fn join_actor(
         (map (option_map (λ b. seat (b.vtable, b.value))) roster.old.slots)
         (map (option_map (λ b. seat (b.vtable, b.value))) actor.roster.slots)
         (map (option_map (λ b. seat (b.vtable, b.value))) roster.new.slots) }
-    ensures log { (result.name ≡ actor.name) × (result.lines.items ≡ actor.log.items) }
+    ensures log { (result.name ≡ actor.name) × (result.lines.items ≡ actor.log.items)
+        × (result.drops.items ≡ actor.drops.items) }
 {
     let Actor {
         name,
@@ -85,15 +86,20 @@ fn join_actor(
         passes,
         held: _held,
         roster: own,
+        stopped: _stopped,
         log,
-        drops: _drops,
+        drops,
         body: _body,
         alloc: _alloc,
     } = actor;
     join_passes(queues, bosses, passes);
     let mut own = own;
     return_targets(&mut own, roster);
-    Log { name, lines: log }
+    Log {
+        name,
+        lines: log,
+        drops,
+    }
 }
 
 /// Gives back what all actors of a phase had when they have run: joins their passes into the bosses', moves their
@@ -123,6 +129,7 @@ pub(crate) fn join_actors(
         (map (option_map (λ b. seat (b.vtable, b.value))) roster.new.slots) }
     ensures names { map (λ l. l.name) logs.new.items ≡ map (λ a. a.name) actors.items }
     ensures logs { map (λ l. l.lines.items) logs.new.items ≡ map (λ a. a.log.items) actors.items }
+    ensures drops { map (λ l. l.drops.items) logs.new.items ≡ map (λ a. a.drops.items) actors.items }
 {
     let mut actors = actors;
     actors.reverse();

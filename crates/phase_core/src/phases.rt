@@ -1,8 +1,8 @@
 //! A phase.
-ghost use Rattle.std.specs.Prelude.{◌≡◌, ◌+◌, ◌<◌, ◌≤◌, ℕ, false, All, IfOk, OnErr, Some, [], length, map, slice_get, vec_capacity, vec_len};
+ghost use Rattle.std.specs.Prelude.{◌≡◌, ◌+◌, ◌<◌, ◌≤◌, ℕ, false, All, IfOk, OnErr, Some, [], length, map, replicate, slice_get, vec_capacity, vec_len};
 ghost use Rattle.std.specs.List.{AllByRecursion};
 ghost use Rattle.std.specs.Option.{option_map};
-ghost use Rattle.acts_core.specs.Sight.{Listed, Sight};
+ghost use Rattle.acts_core.specs.Sight.{Sight};
 ghost use Rattle.any_queue.specs.Kinds.{ServesAny, build_in, sight_in};
 ghost use Rattle.any_queue.specs.Parting.{IsOfLists};
 ghost use Rattle.defs_read.specs.Allowed.{AreAllowed};
@@ -15,10 +15,12 @@ ghost use Rattle.phase_core.specs.Playing.{AreUnused, HavePlayed};
 ghost use Rattle.phase_queues.specs.Left.{AllMayStay};
 ghost use Rattle.script_read.specs.Allowed.{IsAllowedPhase, ops_in};
 ghost use Rattle.script_read.specs.Phases.{actors_in};
-ghost use Rattle.workers_core.specs.Phases.{MayRun, lines_of};
+ghost use Rattle.line_core.specs.Places.{AreOfKinds};
+ghost use Rattle.workers_core.specs.Drops.{ServesPolicies, all_rows};
+ghost use Rattle.workers_core.specs.Phases.{MayDrop, MayRun, lines_of};
 ghost use Rattle.workers_core.specs.Ready.{AllServe};
 
-use crate::counting::puts_of;
+use crate::counting::{puts_of, rows_of};
 use crate::joining::join_actors;
 use acts_core::RestEntry;
 use any_queue::{AnyPass, AnyQueue};
@@ -58,7 +60,8 @@ fn play_actors<R: Threads + Wait + Clone + Send + Sync + Drop, G: Gate>(
     gate: &G,
 )
     requires as_many { length queues.now ≡ vec_len bosses.old }
-    requires kind { AllByRecursion (λ q. (build_in q).kind ≡ Listed) queues.now }
+    requires kinds { AreOfKinds (queues_in defs.now) (map build_in queues.now) }
+    requires policies { ServesPolicies (queues_in defs.now) }
     requires serve { AllServe ServesAny queues.now bosses.old.items }
     requires bosses { (q : ℕ) (s : Sight) → slice_get (map sight_in bosses.old.items) q ≡ Some s
         → IsBoss s.opening (vec_len actors + 1) [] s }
@@ -69,7 +72,10 @@ fn play_actors<R: Threads + Wait + Clone + Send + Sync + Drop, G: Gate>(
         × MayRun (queues_in defs.now) (map sight_in a.passes.items)
         (map (option_map (λ b. seat (b.vtable, b.value))) a.roster.slots)
         a.jobs.items (vec_capacity a.held) (vec_capacity a.log)
-        × (a.held.items ≡ []) × (a.log.items ≡ [])) actors.items }
+        × MayDrop (queues_in defs.now) (all_rows (map build_in queues.now)) (lines_of a.jobs.items)
+        (vec_capacity a.drops)
+        × (a.held.items ≡ []) × (a.log.items ≡ []) × (a.drops.items ≡ [])
+        × (a.stopped.items ≡ replicate (length (queues_in defs.now)) false)) actors.items }
     requires logs { (logs.old.items ≡ []) × (vec_len actors ≤ vec_capacity logs.old) }
     ensures serve { AllServe ServesAny queues.now bosses.new.items }
     ensures played { HavePlayed (queues_in defs.now) (map build_in queues.now)
@@ -101,6 +107,7 @@ pub fn play_phase<R: Threads + Wait + Clone + Send + Sync + Drop, G: Gate>(
 ) -> Result<PhaseEnd, NoMemory>
     requires allowed { AreAllowed (queues_in defs.now) }
     requires lists { AllByRecursion (λ d. IsOfLists d.kind) (queues_in defs.now) }
+    requires policies { ServesPolicies (queues_in defs.now) }
     requires phase { IsAllowedPhase (queues_in defs.now) false (actors_in phase) }
     requires served { AllByRecursion HasServedOps (actors_in phase) }
     requires stay { AllMayStay (queues_in defs.now) left.items }
@@ -117,6 +124,7 @@ pub fn play_phase<R: Threads + Wait + Clone + Send + Sync + Drop, G: Gate>(
     let Ok(mut logs) = Vec::with_capacity(alloc, phase.actors.len()) else {
         return Err(NoMemory);
     };
+    let rows = rows_of(left.as_slice(), puts.as_slice());
     let opened = open_queues(alloc, defs, left, &puts)?;
     let Opened {
         queues,
@@ -127,7 +135,7 @@ pub fn play_phase<R: Threads + Wait + Clone + Send + Sync + Drop, G: Gate>(
     let mut bosses = bosses;
     let mut rests = rests;
     let mut left = left;
-    let actors = make_actors(alloc, defs, phase, &queues, &mut bosses, roster)?;
+    let actors = make_actors(alloc, defs, phase, rows, &queues, &mut bosses, roster)?;
     play_actors(
         rt,
         defs,

@@ -26,7 +26,8 @@ use Rattle.any_queue.specs.declared.kinds.AnyQueue.{AnyQueue}
 use Rattle.any_queue.specs.Kinds.{build_in, sight_in, ServesAny}
 use Rattle.any_queue.specs.Parting.{IsFresh, IsOfLists}
 use Rattle.phase_text.specs.declared.logs.Rest.{Rest}
-use Rattle.account_core.specs.Carry.{Opens, kind_of, unnumbered, uses_bells}
+use Rattle.line_core.specs.Places.{kind_of}
+use Rattle.account_core.specs.Carry.{Opens, unnumbered, uses_bells}
 use Rattle.account_core.specs.Phases.{AllOpen}
 use Rattle.account_core.specs.Texts.{queue_names}
 use Rattle.phase_queues.specs.Left.{Remains, AllMayStay, AreCarried, MayStay, left_in, many_left, row_left, rows_left}

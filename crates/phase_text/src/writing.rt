@@ -7,22 +7,23 @@ ghost use Rattle.phase_text.specs.Logs.{line_text, log_text, phase_text, rest_te
 use crate::logs::{Log, Rest};
 use byte_lists::Bytes;
 use outside_io::{Failed, Sink};
-use report_core::{Answer, write_answer, write_queue};
+use report_core::{Answer, Dropped, write_answer, write_queue};
 
 /// Writes the lines of an actor with their answers, in order.
 fn write_lines<K: Sink>(
     out: &mut K,
     name: &Bytes,
     lines: &[(u64, Answer)],
+    drops: &[Dropped],
     queues: &[Bytes],
     actors: &[Bytes],
 ) -> Result<(), Failed>
-    requires { All (FitsLine queues.now actors.now) lines.now }
+    requires { All (FitsLine queues.now actors.now drops.now) lines.now }
     ensures { Says result (K.written out.old) (K.written out.new) (K.faults out.old) (K.faults out.new)
-        (flat_map (line_text queues.now actors.now name.now) lines.now) }
+        (flat_map (line_text queues.now actors.now drops.now name.now) lines.now) }
 {
     'lines: for line in lines {
-        write_answer(out, name, line.0, &line.1, &[], queues, actors)?;
+        write_answer(out, name, line.0, &line.1, drops, queues, actors)?;
     }
     Ok(())
 }
@@ -38,7 +39,7 @@ fn write_log<K: Sink>(
     ensures { Says result (K.written out.old) (K.written out.new) (K.faults out.old) (K.faults out.new)
         (log_text queues.now actors.now log.now) }
 {
-    write_lines(out, &log.name, &log.lines, queues, actors)
+    write_lines(out, &log.name, &log.lines, &log.drops, queues, actors)
 }
 
 /// Writes the lines of all actors, in the order of the logs.
@@ -81,9 +82,10 @@ fn write_rests<K: Sink>(out: &mut K, rests: &[Rest], actors: &[Bytes]) -> Result
 
 /// Writes the text of a phase: for each actor, in the order of the logs, each of its lines with its answer, and then
 /// each queue, in the order of the rests, with its entries. Caller 1 has the first of `actors`, and queue 0 the first of
-/// `queues`.
+/// `queues`. The entries that an answer names as dropped are those at its places among the log's drops.
 ///
-/// Asks for a name of each caller and of each queue that these speak of, and for answers that drop nothing. Takes no memory.
+/// Asks for a name of each caller and of each queue that these speak of, and for logs with all drops that their answers
+/// name. Takes no memory.
 /// Failed comes only where the sink's count of faults rose; then some front of the text was written.
 pub fn write_phase<K: Sink>(
     out: &mut K,

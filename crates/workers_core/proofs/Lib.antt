@@ -2,6 +2,8 @@ pub mod Lists
 pub mod Calls
 pub mod Holds
 pub mod AckLines
+pub mod Deletions
+pub mod Dropping
 pub mod LockLines
 pub mod TakeLines
 pub mod PutLines
@@ -14,5 +16,6 @@ pub mod OnQueue
 pub mod OneJob
 pub mod Onward
 pub mod Served
+pub mod Roomy
 pub mod Preparing
 pub mod Counting

@@ -6,19 +6,20 @@ use Rattle.std.specs.Prelude.{get_or}
 use mathlib.Core.List.{Mem}
 use Rattle.acts_core.specs.Sight.{Build, Sight}
 use Rattle.defs_read.specs.Defined.{Defined}
+use Rattle.message_core.specs.Spelling.{Content}
 use Rattle.script_read.specs.declared.lines.What.{What}
 use Rattle.script_read.specs.declared.lines.What.TheVariants.{Put, Take, Close, Ack, Release, Lock, Unlock, Steal, Begin, Commit, Rollback}
 use Rattle.report_core.specs.declared.answers.Answer as report
 use Rattle.report_core.specs.declared.answers.Answer.TheVariants.{Closed}
 use Rattle.script_read.specs.declared.lines.Op.{Op}
 use Rattle.line_core.specs.Fits.{LineFits, Standing}
-use Rattle.workers_core.specs.Jobs.{MayDo, puts_to, queue_of}
+use Rattle.workers_core.specs.Jobs.{MayDo, is_put, puts_to, queue_of}
 use Rattle.workers_core.specs.Ready.{IsSlipFor, MayPutAll, Serves, Spends}
 use Rattle.line_core.specs.Runs.{DidLines, DidOn, calls_on}
 use Rattle.workers_core.specs.declared.jobs.Aid.{Aid}
 use Rattle.workers_core.specs.declared.jobs.Aid.TheVariants as aid
 use Rattle.workers_core.specs.declared.jobs.Job.{Job}
-use Rattle.workers_core.proofs.Frugal.{allowance_least, frugal, is_put, put_spends, share_least}
+use Rattle.workers_core.proofs.Frugal.{allowance_least, frugal, put_spends, share_least}
 use Rattle.workers_core.proofs.Leaves.{ran_nothing}
 use Rattle.workers_core.proofs.Ones.{set_here, set_length, set_other}
 
@@ -57,7 +58,7 @@ may_what sights (Put r m) (aid.Slip slip) q t serves is at rights =
     let same : r ≡ q = same_some r q is in
     let fit : IsSlipFor t m slip = subst (λ (z : Sight). IsSlipFor z m slip) (at_place sights r q serves.0 t serves.1 same at) serves.2 in
     let may = rights (eq-eqb r q same) in
-    (same, record { fits = fit.fits; key = fit.key; id = fit.id; size = fit.size; allowed = may.0; share = may.1 })
+    (same, record { fits = fit.fits; id = fit.id; size = fit.size; allowed = may.0; share = may.1 })
 may_what sights (Put r m) aid.Nothing q t serves is at rights = absurd serves
 may_what sights (Put r m) (aid.Place p k) q t serves is at rights = absurd serves
 may_what sights (Take c) (aid.Place r k) q t serves is at rights =
@@ -184,3 +185,17 @@ closed_line defs builds olds s s' op c is same = record {
 -- the passes after it by another name
 pub did_to : (defs : List Defined) (builds : List Build) (olds news news' : List Sight) (s s' : Standing) (ops : List Op) (answers : List report.Answer) → news' ≡ news → DidLines defs builds olds s ops answers news s' → DidLines defs builds olds s ops answers news' s'
 did_to defs builds olds news news' s s' ops answers same did = subst (λ (ss : List Sight). DidLines defs builds olds s ops answers ss s') (sym same) did
+
+-- the message of a put, and its queue
+pub put_of : (w : What) (a : Aid) (q : ℕ) → is_put w ≡ true → queue_of w a ≡ Some q → (m : Content) × (w ≡ Put q m)
+put_of (Put r m) a q is named = (m, ap (λ (n : ℕ). Put n m) (same_some r q named))
+put_of (Take c) a q is named = absurd (cc)
+put_of (Close c) a q is named = absurd (cc)
+put_of (Ack r id) a q is named = absurd (cc)
+put_of (Release r id) a q is named = absurd (cc)
+put_of (Lock r id) a q is named = absurd (cc)
+put_of (Unlock r id) a q is named = absurd (cc)
+put_of (Steal r id) a q is named = absurd (cc)
+put_of Begin a q is named = absurd (cc)
+put_of Commit a q is named = absurd (cc)
+put_of Rollback a q is named = absurd (cc)

@@ -1,5 +1,5 @@
 -- what one line leaves for those after it
-use Rattle.std.proofs.Common.{◌≡◌, ◌≢◌, ◌<◌, ◌≤◌, ◌+◌, ◌-◌, ℕ, zero, suc, min, Bool, true, cond, nat_eq, Option, Some, None, List, [], ◌∷◌, ◌++◌, length, map, slice_get, slice_set, reverse, refl, sym, ap, ◌∙◌, subst, ⊎_elim, eq-eqb, arith, append_assoc}
+use Rattle.std.proofs.Common.{◌≡◌, ◌≢◌, ◌<◌, ◌≤◌, ◌+◌, ◌-◌, ℕ, zero, suc, min, Bool, true, false, cond, nat_eq, Option, Some, None, List, [], ◌∷◌, ◌++◌, length, map, replicate, slice_get, slice_set, reverse, refl, sym, ap, ◌∙◌, subst, ⊎_elim, eq-eqb, arith, append_assoc}
 use Rattle.std.specs.Prelude.{get_or}
 use Rattle.std.specs.List.{AllByRecursion, count_by}
 use Rattle.std.proofs.lemmas.Bool.{cases_eq}
@@ -13,14 +13,15 @@ use Rattle.defs_read.specs.Defined.{Defined}
 use Rattle.script_read.specs.declared.lines.What.{What}
 use Rattle.script_read.specs.declared.lines.What.TheVariants.{Put, Take, Close, Ack, Release, Lock, Unlock, Steal, Begin, Commit, Rollback}
 use Rattle.report_core.specs.declared.answers.Answer as report
-use Rattle.report_core.specs.declared.answers.Answer.TheVariants.{Accepted, Got, Empty, NoCredit, Closed, Acked, NotHeld, Stolen, Released, Unlocked, Locked, Stole, NotStealable, Moved, Absent}
+use Rattle.report_core.specs.declared.answers.Answer.TheVariants.{Accepted, Rejected, Blocked, Got, Empty, NoCredit, Closed, Acked, NotHeld, Stolen, Released, Outdated, Unlocked, Locked, Stole, NotStealable, Moved, Absent}
+use Rattle.report_core.specs.declared.answers.Dropped.{Dropped}
 use Rattle.target_core.specs.Seats.{Seat, Seats, in_place, left_of, seat_at, served}
 use Rattle.target_core.specs.declared.deliveries.Delivery.{Delivery}
 use Rattle.script_read.specs.declared.lines.Op.{Op}
-use Rattle.line_core.specs.Fits.{Did, LineFits, LinesFit, Standing, unlocks}
+use Rattle.line_core.specs.Fits.{Did, LineFits, LinesFit, Standing, begins, unlocks}
 use Rattle.line_core.specs.Hands.{Hand}
 use Rattle.workers_core.specs.Held.{hands_of}
-use Rattle.workers_core.specs.Phases.{HasRun, begins, lines_of}
+use Rattle.workers_core.specs.Phases.{HasRun, lines_of}
 use Rattle.workers_core.specs.declared.held.Kept.{Kept}
 use Rattle.workers_core.specs.Jobs.{SeatReady, gains, puts_to, takes_for}
 use Rattle.line_core.specs.Places.{IsReady}
@@ -78,7 +79,7 @@ still olds news w (Put q m) (aid.Slip slip) spends serves =
     let t : Sight = now.0 in
     let same = spends.opening q s t serves.1 now.1 in
     let fit : IsSlipFor s m slip = serves.2 in
-    (t, now.1, record { fits = subst (λ o. FitsQueue o.lists o.consumers slip) (sym same) fit.fits; key = fit.key; id = fit.id; size = fit.size })
+    (t, now.1, record { fits = subst (λ o. FitsQueue o.lists o.consumers slip) (sym same) fit.fits; id = fit.id; size = fit.size })
 still olds news w (Put q m) aid.Nothing spends serves = absurd serves
 still olds news w (Put q m) (aid.Place p k) spends serves = absurd serves
 still olds news w (Take c) (aid.Place q k) spends serves =
@@ -182,7 +183,9 @@ module _ (n : ℕ → ℕ) where
   ready_closed s s' e same ready = subst IsReadyOn (sym (ap (λ (x : Standing). x.seats) same)) (ready_set (Close e) s.seats e None ready (λ x at. tt))
 
   pub ready_after : (defs : List Defined) (s : Standing) (w : What) (a : report.Answer) (dids : List Did) (s' : Standing) → LineFits defs s w a dids s' → IsReadyFor w s.seats → IsReadyOn s'.seats
-  ready_after defs s (Put q m) (Accepted id flowed dropped) dids s' fits ready = ready_same (Put q m) s s' fits.3.same ready
+  ready_after defs s (Put q m) (Accepted id flowed acquired) dids s' fits ready = ready_hands (Put q m) s s' _ fits.2.2.leaves refl ready
+  ready_after defs s (Put q m) (Rejected depth) dids s' fits ready = ready_hands (Put q m) s s' _ fits.leaves refl ready
+  ready_after defs s (Put q m) (Blocked depth) dids s' fits ready = ready_hands (Put q m) s s' _ fits.leaves refl ready
   ready_after defs s (Take c) Closed dids s' fits ready = ready_same (Take c) s s' fits.1.same ready
   ready_after defs s (Take c) NoCredit dids s' fits ready = ready_same (Take c) s s' fits.1.same ready
   ready_after defs s (Take c) Empty dids s' fits ready = ready_same (Take c) s s' fits.same ready
@@ -192,6 +195,7 @@ module _ (n : ℕ → ℕ) where
   ready_after defs s (Ack q named) (Stolen state) dids s' fits ready = ready_hands (Ack q named) s s' _ fits.fact.1.leaves refl ready
   ready_after defs s (Ack q named) NotHeld dids s' fits ready = ready_same (Ack q named) s s' fits.1.same ready
   ready_after defs s (Release q named) (Released id) dids s' fits ready = ready_hands (Release q named) s s' _ fits.fact.does.leaves refl ready
+  ready_after defs s (Release q named) (Outdated id) dids s' fits ready = ready_hands (Release q named) s s' _ fits.fact.does.leaves refl ready
   ready_after defs s (Release q named) (Stolen state) dids s' fits ready = ready_hands (Release q named) s s' _ fits.fact.1.leaves refl ready
   ready_after defs s (Release q named) NotHeld dids s' fits ready = ready_same (Release q named) s s' fits.1.same ready
   ready_after defs s (Lock q named) (Locked id) dids s' fits ready = ready_hands (Lock q named) s s' _ fits.fact.does.leaves refl ready
@@ -273,14 +277,15 @@ map_twice : (js : List Job) → map (λ (j : Job). j.op.line) js ≡ map (λ (op
 map_twice [] = refl
 map_twice (j ∷ js) = ap (λ (ns : List ℕ). j.op.line ∷ ns) (map_twice js)
 
-pub has_run : (defs : List Defined) (builds : List Build) (olds mids news : List Sight) (jobs jobs' : List Job) (held : List Kept) (seats seats' : Seats) (hands : List Hand) (log : List (ℕ × report.Answer)) → jobs' ≡ jobs → held ≡ []
+pub has_run : (defs : List Defined) (builds : List Build) (olds mids news : List Sight) (jobs jobs' : List Job) (held : List Kept) (seats seats' : Seats) (stopped stopped' : List Bool) (drops drops' : List Dropped) (hands : List Hand) (log : List (ℕ × report.Answer))
+    → jobs' ≡ jobs → held ≡ [] → stopped ≡ replicate (length defs) false → drops ≡ []
     → map (λ e. e.0) log ≡ map (λ (j : Job). j.op.line) (reverse jobs')
-    → DidLines defs builds olds (record { hands = hands_of held; seats = seats }) (map (λ (j : Job). j.op) (reverse jobs')) (map (λ x. x.1) log) mids (record { hands = hands; seats = seats' })
-    → Ran builds mids (unlocks hands) news → HasRun defs builds olds seats (lines_of jobs) log news seats'
-has_run defs builds olds mids news jobs jobs' held seats seats' hands log same none numbers did left =
-    let start : Standing = record { hands = hands_of held; seats = seats } in
-    let begin : start ≡ begins seats = ap (λ (ks : List Kept). record { hands = hands_of ks; seats = seats }) none in
-    let end : Standing = record { hands = hands; seats = seats' } in
+    → DidLines defs builds olds (record { hands = hands_of held; seats = seats; stopped = stopped; drops = drops }) (map (λ (j : Job). j.op) (reverse jobs')) (map (λ x. x.1) log) mids (record { hands = hands; seats = seats'; stopped = stopped'; drops = drops' })
+    → Ran builds mids (unlocks hands) news → HasRun defs builds olds seats (lines_of jobs) log drops' news seats'
+has_run defs builds olds mids news jobs jobs' held seats seats' stopped stopped' drops drops' hands log same none free few numbers did left =
+    let start : Standing = record { hands = hands_of held; seats = seats; stopped = stopped; drops = drops } in
+    let begin : start ≡ begins defs seats = rw none (rw free (rw few refl)) in
+    let end : Standing = record { hands = hands; seats = seats'; stopped = stopped'; drops = drops' } in
     let ops : map (λ (j : Job). j.op) (reverse jobs') ≡ lines_of jobs = ap lines_of same in
     record {
       numbers = numbers ∙ map_twice (reverse jobs') ∙ ap (λ (os : List Op). map (λ (op : Op). op.line) os) ops;
@@ -289,6 +294,7 @@ has_run defs builds olds mids news jobs jobs' held seats seats' hands log same n
       fits = subst (λ (s : Standing). LinesFit defs s (lines_of jobs) (map (λ (x : ℕ × report.Answer). x.1) log) did.dids end) begin (subst (λ (os : List Op). LinesFit defs start os (map (λ (x : ℕ × report.Answer). x.1) log) did.dids end) ops did.fits);
       ran = runs_append builds olds mids news did.dids (unlocks hands) did.ran left;
       targets = refl;
+      dropped = refl;
     }
 
 -- nothing was done yet

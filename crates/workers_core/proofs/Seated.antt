@@ -1,5 +1,5 @@
 -- takes, and the targets that they are for
-use Rattle.std.proofs.Common.{◌≡◌, ◌<◌, ◌≤◌, ℕ, true, false, nat_eq, Option, Some, None, List, [], ◌∷◌, length, slice_set, refl, sym, ap, ◌∙◌, subst, eq-eqb, ne_eqb, arith}
+use Rattle.std.proofs.Common.{◌≡◌, ◌<◌, ◌≤◌, ℕ, Bool, true, false, nat_eq, Option, Some, None, List, [], ◌∷◌, length, slice_set, refl, sym, ap, ◌∙◌, subst, eq-eqb, ne_eqb, arith}
 use Rattle.std.specs.Option.{option_map}
 use Rattle.std.proofs.lemmas.Bool.Decides.{nat_tests}
 use Rattle.acts_core.specs.Calls.{CallNext, IsEmpty, IsGot}
@@ -9,6 +9,7 @@ use Rattle.acts_core.specs.Sight.{Build, Sight}
 use Rattle.defs_read.specs.Defined.{Defined}
 use Rattle.script_read.specs.declared.lines.What.TheVariants.{Take}
 use Rattle.report_core.specs.declared.answers.Answer.TheVariants.{Closed, Empty, Got, NoCredit}
+use Rattle.report_core.specs.declared.answers.Dropped.{Dropped}
 use Rattle.target_core.specs.Seats.{IsWithin, Seat, Seats, left_of, seat_at, served}
 use Rattle.target_core.specs.declared.deliveries.Delivery.{Delivery}
 use Rattle.txn_core.specs.Shown.{number_after}
@@ -51,9 +52,9 @@ entry_of q row i n load raised id is number =
     ∙ ap (λ (l : Load). hand q row load.id (Some l)) is
     ∙ ap (λ (x : ℕ). hand q row load.id (Some (delivered x load))) (sym number)
 
-module _ (build : Build) (a : Sight) (q k c : ℕ) (hands : List Hand) (seats : Seats) where
+module _ (build : Build) (a : Sight) (q k c : ℕ) (hands : List Hand) (seats : Seats) (stopped : List Bool) (drops : List Dropped) where
   abbrev stands : Standing
-  stands = record { hands = hands; seats = seats }
+  stands = record { hands = hands; seats = seats; stopped = stopped; drops = drops }
 
   pub closed : seat_at seats c ≡ None → (defs : List Defined) → DidOn defs build q a stands (Take c) Closed a stands
   closed none defs = record { dids = []; fits = (none, record { did = refl; same = refl }); here = ran_none build a; elsewhere = λ e apart. refl }
@@ -74,7 +75,7 @@ module _ (build : Build) (a : Sight) (q k c : ℕ) (hands : List Hand) (seats : 
 
   pub got : (b : Sight) (s : Seat) (row list id n : ℕ) (load : Load) (d : Delivery) (hands' : List Hand) (seats' : Seats) → seat_at seats c ≡ Some s → is_full s ≡ false → Called build a b (CallNext k) (IsGot row list load)
       → id ≡ load.id → n ≡ number_after load.count → IsDelivery c q n load d → hands' ≡ gained (in_hands q row (delivered n load)) hands → seats' ≡ slice_set seats c (Some (served s d))
-      → (defs : List Defined) → place_of defs c ≡ Some (q, k) → DidOn defs build q a stands (Take c) (Got id n) b (record { hands = hands'; seats = seats' })
+      → (defs : List Defined) → place_of defs c ≡ Some (q, k) → DidOn defs build q a stands (Take c) (Got id n) b (record { hands = hands'; seats = seats'; stopped = stopped; drops = drops })
   got b s row list id n load d hands' seats' there more m ids number told after seated defs place = record {
     dids = On q (CallNext k) (IsGot row list load) ∷ [];
     fits = record {

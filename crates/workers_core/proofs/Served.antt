@@ -13,10 +13,8 @@ use Rattle.acts_core.specs.Sight.{Sight}
 use Rattle.defs_read.specs.Defined.{Defined, consumers_in, defined, queues_in}
 use Rattle.defs_read.specs.declared.defs.Defs.{Defs}
 use Rattle.defs_read.specs.declared.defs.QueueDef.{QueueDef}
-use Rattle.defs_read.specs.Slips.{HasNoKey, IsSlip, lists_of}
+use Rattle.defs_read.specs.Slips.{IsSlip, lists_of}
 use Rattle.defs_read.specs.declared.defs.ConsumerDef.{ConsumerDef}
-use Rattle.defs_read.specs.declared.defs.QueueKind.{QueueKind}
-use Rattle.defs_read.specs.declared.defs.QueueKind.TheVariants.{Standard, Priority, Sorted, LastValue}
 use Rattle.message_core.specs.Spelling.{Content}
 use Rattle.script_read.specs.Allowed.{HasConsumer, IsDefined, IsOpOf}
 use Rattle.script_read.specs.declared.lines.Op.{Op}
@@ -24,7 +22,7 @@ use Rattle.script_read.specs.declared.lines.What.{What}
 use Rattle.script_read.specs.declared.lines.What.TheVariants.{Put, Take, Close, Ack, Release, Lock, Unlock, Steal, Begin, Commit, Rollback}
 use Rattle.line_core.specs.Places.{place_from, place_of}
 use Rattle.workers_core.specs.Jobs.{JobFits, gains, puts_to, takes_for}
-use Rattle.workers_core.specs.Made.{ArePassesFor, GoesByNoHeader, IsOwnLine, IsPassFor, IsServed, MayPutLines, TakesWithin, puts_in}
+use Rattle.workers_core.specs.Made.{ArePassesFor, IsOwnLine, IsPassFor, IsServed, MayPutLines, TakesWithin, puts_in}
 use Rattle.workers_core.specs.Phases.{lines_of}
 use Rattle.workers_core.specs.Ready.{MayPutAll, Serves, all_gains}
 use Rattle.workers_core.specs.declared.jobs.Aid.{Aid}
@@ -206,12 +204,6 @@ get_within [] i within = absurd (omega arith)
 get_within (x ∷ xs) zero within = (x, refl)
 get_within (x ∷ xs) (suc i) within = let w : i < length xs = omega arith in get_within xs i w
 
-no_key : (kind : QueueKind) (key : Option (List ℕ)) → GoesByNoHeader kind → HasNoKey kind key → key ≡ None
-no_key Standard key plain none = none
-no_key (Priority n) key plain none = none
-no_key (Sorted name) key plain none = absurd plain
-no_key (LastValue name) key plain none = absurd plain
-
 some_and : {X : Type 0} {P : X → Type 0} (o : Option X) → IsSomeAnd o P → (x : X) × (o ≡ Some x) × P x
 some_and None and = absurd and
 some_and (Some x) and = (x, refl, and)
@@ -263,8 +255,8 @@ module _ (name : List ℕ) (defs : List Defined) (sights : List Sight) (passes :
   pass_within q within = omega (arith, within, passes.as_many)
 
   -- a put has the slip of its message
-  pub serves_put : (q : ℕ) (m : Content) (def : Defined) (slip : Slip) → slice_get defs q ≡ Some def → GoesByNoHeader def.kind → IsSlip def m slip → FitsQueue (lists_of def.kind) (length def.consumers) slip → HasNoKey def.kind slip.key → Serves sights (Put q m) (aid.Slip slip)
-  serves_put q m def slip there plain is fits key =
+  pub serves_put : (q : ℕ) (m : Content) (def : Defined) (slip : Slip) → slice_get defs q ≡ Some def → IsSlip def m slip → FitsQueue (lists_of def.kind) (length def.consumers) slip → Serves sights (Put q m) (aid.Slip slip)
+  serves_put q m def slip there is fits =
       let at = get_within sights q (pass_within q (slice_get_within defs q def there)) in
       let t : Sight = at.0 in
       let pass : IsPassFor name def t = passes.each q def t there at.1 in (
@@ -272,7 +264,6 @@ module _ (name : List ℕ) (defs : List Defined) (sights : List Sight) (passes :
         at.1,
         record {
           fits = subst (λ (n : ℕ). FitsQueue t.opening.lists n slip) (sym pass.consumers) (subst (λ (n : ℕ). FitsQueue n (length def.consumers) slip) (sym pass.lists) fits);
-          key = no_key def.kind slip.key plain key;
           id = is.id;
           size = is.size;
         },

@@ -1,12 +1,13 @@
 -- what an actor knows of the entries in its hands
-use Rattle.std.specs.Prelude.{◌≡◌, ◌≢◌, ◌<◌, ℕ, Some, List}
+use Rattle.std.specs.Prelude.{◌≡◌, ◌≢◌, ◌<◌, ℕ, Option, Some, None, List}
 use Rattle.std.specs.List.{AllByRecursion}
 use Rattle.queue_model.specs.declared.rows.Row.{Row}
 use Rattle.queue_model.specs.Keyed.{Apart}
 use Rattle.queue_model.specs.State.{row_at}
 use Rattle.acts_core.specs.Hands.{InHand}
+use Rattle.acts_core.specs.Load.{Load}
 use Rattle.acts_core.specs.Sight.{Sight, known}
-use Rattle.line_core.specs.Hands.{Hand, same_hand}
+use Rattle.line_core.specs.Hands.{Hand, gained, hand, same_hand}
 
 -- The entry is in the hands of the pass's caller: left by it, or locked by it, with the cargo that it was handed. And
 -- its row has its id.
@@ -24,6 +25,12 @@ MineOn t q k = k.queue ≡ q → Mine t k
 pub record Hold (t : Sight) (q : ℕ) (hands : List Hand) : Type 0 where
   pub mine : AllByRecursion (MineOn t q) hands
   pub apart : Apart same_hand hands
+
+-- the hands, and beside them an entry that was acquired, if any: where one of its id is among them, it has its place
+abbrev pub HoldsAlso : Sight → ℕ → Option (ℕ × Load) → List Hand → Type 0
+HoldsAlso t q None hands = Hold t q hands
+HoldsAlso t q (Some e) hands =
+    Hold t q (gained (hand q e.0 e.1.id (Some e.1)) hands) × Apart same_hand hands
 
 -- entries on other rows stay the caller's
 abbrev pub Keeps : Sight → Sight → ℕ → Type 0

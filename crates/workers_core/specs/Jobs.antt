@@ -1,5 +1,5 @@
 -- lines with what was found out about them before their phase began
-use Rattle.std.specs.Prelude.{◌≡◌, ℕ, ◌<◌, ◌==◌, Bool, false, Option, Some, None, List, length, slice_get}
+use Rattle.std.specs.Prelude.{◌≡◌, ℕ, ◌<◌, ◌==◌, Bool, true, false, Option, Some, None, List, length, slice_get}
 use mathlib.Core.List.{Mem}
 use Rattle.queue_model.specs.declared.rows.Slip.{Slip}
 use Rattle.queue_model.specs.Table.{FitsQueue}
@@ -26,7 +26,6 @@ JobFits defs what other = Unit {0}
 -- a slip that a message may have in the queue of a pass
 pub record IsOwnSlip (t : Sight) (m : Content) (slip : Slip) : Type 0 where
   pub fits : FitsQueue t.opening.lists t.opening.consumers slip
-  pub key : slip.key ≡ None
   pub id : slip.id ≡ m.id
   pub size : slip.size ≡ length (content m)
   pub allowed : 0 < t.allowance
@@ -58,6 +57,11 @@ gains what = 0
 abbrev pub puts_to : ℕ → What → Bool
 puts_to q (Put r m) = r == q
 puts_to q what = false
+
+-- whether a line puts
+abbrev pub is_put : What → Bool
+is_put (Put q m) = true
+is_put what = false
 
 -- whether a line takes for consumer c
 abbrev pub takes_for : ℕ → What → Bool

@@ -6,8 +6,6 @@ use Rattle.acts_core.specs.Sight.{Sight}
 use Rattle.defs_read.specs.Defined.{Defined}
 use Rattle.defs_read.specs.Slips.{lists_of}
 use Rattle.defs_read.specs.declared.defs.ConsumerDef.{ConsumerDef}
-use Rattle.defs_read.specs.declared.defs.QueueKind.{QueueKind}
-use Rattle.defs_read.specs.declared.defs.QueueKind.TheVariants.{Standard, Priority, Sorted, LastValue}
 use Rattle.script_read.specs.Allowed.{IsDefined}
 use Rattle.script_read.specs.declared.lines.Op.{Op}
 use Rattle.script_read.specs.declared.lines.What.{What}
@@ -15,13 +13,6 @@ use Rattle.script_read.specs.declared.lines.What.TheVariants.{Take, Begin, Commi
 use Rattle.target_core.specs.Hands.{Stays}
 use Rattle.target_core.specs.Seats.{Seat, Seats, seat_at}
 use Rattle.workers_core.specs.Jobs.{puts_to}
-
--- a queue of this kind goes by no header of its messages
-abbrev pub GoesByNoHeader : QueueKind → Type 0
-GoesByNoHeader Standard = Unit {0}
-GoesByNoHeader (Priority n) = Unit {0}
-GoesByNoHeader (Sorted key) = ⊥
-GoesByNoHeader (LastValue key) = ⊥
 
 -- actors do such a line: all but those of transactions
 abbrev pub IsServed : What → Type 0

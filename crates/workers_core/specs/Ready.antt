@@ -1,5 +1,5 @@
 -- what an actor needs of its queues and passes before a line, and has again after it
-use Rattle.std.specs.Prelude.{◌≡◌, ℕ, ◌+◌, ◌<◌, ◌≤◌, if◌then◌else◌, Some, None, List, length, slice_get}
+use Rattle.std.specs.Prelude.{◌≡◌, ℕ, ◌+◌, ◌<◌, ◌≤◌, if◌then◌else◌, Some, List, length, slice_get}
 use Rattle.std.specs.List.{AllByRecursion, count_by, sum_by}
 use mathlib.Core.List.{Mem}
 use Rattle.queue_model.specs.Table.{FitsQueue}
@@ -32,7 +32,6 @@ pub record Holds (sights : List Sight) (hands : List Hand) : Type 0 where
 -- a slip that a message may have in the queue of a pass
 pub record IsSlipFor (t : Sight) (m : Content) (slip : Slip) : Type 0 where
   pub fits : FitsQueue t.opening.lists t.opening.consumers slip
-  pub key : slip.key ≡ None
   pub id : slip.id ≡ m.id
   pub size : slip.size ≡ length (content m)
 

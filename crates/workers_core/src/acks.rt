@@ -2,7 +2,6 @@
 ghost use Rattle.std.specs.Prelude.{vec_len, vec_capacity, ◌≤◌, ◌≡◌};
 ghost use Rattle.std.specs.Result.{IfErr, IfOk};
 ghost use Rattle.std.specs.Option.{option_map};
-ghost use Rattle.acts_core.specs.Sight.{Listed};
 ghost use Rattle.script_read.specs.declared.lines.What.TheVariants.{Ack, Release};
 ghost use Rattle.txn_core.specs.Parcels.{load_of};
 ghost use Rattle.line_core.specs.Hands.{hand};
@@ -74,7 +73,8 @@ pub(crate) fn ack_line<Q: SharedQueue<Parcel>>(
     }
 }
 
-/// Does a release line: the entry that it means is locked, if it isn't, and made available again.
+/// Does a release line: the entry that it means is locked, if it isn't, and made available again; where a later entry of
+/// its key has come, it is dropped.
 pub(crate) fn release_line<Q: SharedQueue<Parcel>>(
     queue: &Q,
     pass: &mut Q::Pass,
@@ -84,7 +84,6 @@ pub(crate) fn release_line<Q: SharedQueue<Parcel>>(
 ) -> Answer
     requires serves { Q.serves queue.now pass.old }
     requires hold { Hold (Q.sight pass.old) number (hands_of held.old.items) }
-    requires kind { (Q.build queue.now).kind ≡ Listed }
     ensures serves { Q.serves queue.now pass.new }
     ensures hold { Hold (Q.sight pass.new) number (hands_of held.new.items) }
     ensures others { KeepsOthers number (hands_of held.old.items) (hands_of held.new.items) }
@@ -101,7 +100,11 @@ pub(crate) fn release_line<Q: SharedQueue<Parcel>>(
         Err(state) => Answer::Stolen { state },
         Ok(cargo) => match queue.release(pass, row, cargo) {
             Releasing::Released => Answer::Released { id },
-            Releasing::Outdated(_cargo) => unreachable!(),
+            Releasing::Outdated(_cargo) => {
+                queue.dequeue(pass, row);
+                queue.delete(pass, row);
+                Answer::Outdated { id }
+            }
         },
     }
 }

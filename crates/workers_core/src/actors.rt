@@ -1,10 +1,10 @@
 //! Actors.
-ghost use Rattle.std.specs.Prelude.{ℕ, List, [], map, length, vec_len, vec_capacity, ◌≡◌};
-ghost use Rattle.std.specs.List.{AllByRecursion};
+ghost use Rattle.std.specs.Prelude.{ℕ, List, [], false, map, length, replicate, vec_len, vec_capacity, ◌≡◌};
 ghost use Rattle.std.specs.Option.{option_map};
-ghost use Rattle.acts_core.specs.Sight.{Listed};
 ghost use Rattle.defs_read.specs.Defined.{queues_in};
-ghost use Rattle.workers_core.specs.Phases.{HasRun, MayRun, lines_of};
+ghost use Rattle.line_core.specs.Places.{AreOfKinds};
+ghost use Rattle.workers_core.specs.Drops.{ServesPolicies, all_rows};
+ghost use Rattle.workers_core.specs.Phases.{HasRun, MayDrop, MayRun, lines_of};
 ghost use Rattle.workers_core.specs.Ready.{AllServe};
 
 use crate::held::Kept;
@@ -22,7 +22,8 @@ use target_core::Roster;
 use txn_core::Parcel;
 
 /// An actor of a phase: its lines, of which the last is kept first, a pass of each queue in the order of the
-/// definitions, the targets of its consumers, and room for what its lines need.
+/// definitions, the targets of its consumers, whether flow control has stopped it on each queue, and room for what its
+/// lines need.
 pub struct Actor<Q: SharedQueue<Parcel>> {
     pub name: Bytes,
     pub number: u64,
@@ -30,6 +31,7 @@ pub struct Actor<Q: SharedQueue<Parcel>> {
     pub passes: Vec<Q::Pass>,
     pub held: Vec<Kept>,
     pub roster: Roster,
+    pub stopped: Vec<bool>,
     pub log: Vec<(u64, Answer)>,
     pub drops: Vec<Dropped>,
     pub body: Buffer,
@@ -60,6 +62,7 @@ impl<Q: SharedQueue<Parcel>> Actor<Q> {
             passes,
             held: _held,
             roster,
+            stopped: _stopped,
             log,
             drops,
             body: _body,
@@ -83,16 +86,21 @@ pub(crate) fn run_actor<Q: SharedQueue<Parcel>, G: Gate>(
 )
     requires as_many { length queues.now ≡ vec_len actor.old.passes }
     requires serve { AllServe Q.serves queues.now actor.old.passes.items }
-    requires kind { AllByRecursion (λ q. (Q.build q).kind ≡ Listed) queues.now }
+    requires kinds { AreOfKinds (queues_in defs.now) (map Q.build queues.now) }
+    requires policies { ServesPolicies (queues_in defs.now) }
     requires may { MayRun (queues_in defs.now) (map Q.sight actor.old.passes.items)
         (map (option_map (λ b. seat (b.vtable, b.value))) actor.old.roster.slots) actor.old.jobs.items
         (vec_capacity actor.old.held) (vec_capacity actor.old.log) }
-    requires fresh { (actor.old.held.items ≡ []) × (actor.old.log.items ≡ []) }
+    requires drops { MayDrop (queues_in defs.now) (all_rows (map Q.build queues.now))
+        (lines_of actor.old.jobs.items) (vec_capacity actor.old.drops) }
+    requires fresh { (actor.old.held.items ≡ []) × (actor.old.log.items ≡ []) × (actor.old.drops.items ≡ [])
+        × (actor.old.stopped.items ≡ replicate (length (queues_in defs.now)) false) }
     ensures named { actor.new.name ≡ actor.old.name }
     ensures serve { AllServe Q.serves queues.now actor.new.passes.items }
     ensures ran { HasRun (queues_in defs.now) (map Q.build queues.now) (map Q.sight actor.old.passes.items)
         (map (option_map (λ b. seat (b.vtable, b.value))) actor.old.roster.slots)
-        (lines_of actor.old.jobs.items) actor.new.log.items (map Q.sight actor.new.passes.items)
+        (lines_of actor.old.jobs.items) actor.new.log.items actor.new.drops.items
+        (map Q.sight actor.new.passes.items)
         (map (option_map (λ b. seat (b.vtable, b.value))) actor.new.roster.slots) }
 {
     let jobs = mem::replace(&mut actor.jobs, Vec::new(actor.alloc));
@@ -102,6 +110,8 @@ pub(crate) fn run_actor<Q: SharedQueue<Parcel>, G: Gate>(
         &mut actor.passes,
         &mut actor.held,
         &mut actor.roster,
+        &mut actor.stopped,
+        &mut actor.drops,
         &mut actor.log,
         jobs,
         gate,

@@ -83,7 +83,7 @@ pub(crate) fn take_meant(held: &mut Vec<Kept>, queue: u32, id: Option<u64>) -> O
 }
 
 /// The entry of this id goes, if there is one.
-fn lose(held: &mut Vec<Kept>, queue: u32, id: u64)
+pub(crate) fn lose(held: &mut Vec<Kept>, queue: u32, id: u64)
     requires apart { Apart same_hand (hands_of held.old.items) }
     ensures lost { hands_of held.new.items ≡ without queue id (hands_of held.old.items) }
     ensures room { (vec_len held.new ≤ vec_len held.old) × (vec_capacity held.new ≡ vec_capacity held.old) }

@@ -3,6 +3,7 @@
 
 mod acks;
 mod actors;
+mod drops;
 mod held;
 mod jobs;
 mod leaving;

@@ -1,5 +1,5 @@
 //! Actors are made: what their lines need beside their words is found out, and all memory is taken.
-ghost use Rattle.std.specs.Prelude.{ℕ, List, [], false, Some, IfOk, IfErr, map, length, slice_get, vec_len, vec_capacity, ◌<◌, ◌≡◌, ◌≤◌};
+ghost use Rattle.std.specs.Prelude.{ℕ, List, [], false, Some, IfOk, IfErr, map, length, replicate, slice_get, vec_len, vec_capacity, ◌<◌, ◌≡◌, ◌≤◌};
 ghost use Rattle.std.specs.List.{AllByRecursion, count_by};
 ghost use Rattle.std.specs.Option.{option_map};
 ghost use Rattle.acts_core.specs.Sight.{Sight};
@@ -9,8 +9,8 @@ ghost use Rattle.script_read.specs.Allowed.{IsOpOf};
 ghost use Rattle.target_core.specs.Seats.{seat_at};
 ghost use Rattle.line_core.specs.Places.{IsReady, place_of};
 ghost use Rattle.workers_core.specs.Jobs.{JobFits, gains, takes_for};
-ghost use Rattle.workers_core.specs.Made.{ArePassesFor, GoesByNoHeader, IsOwnLine, IsServed, MayPutLines, SeatsStay, TakesWithin};
-ghost use Rattle.workers_core.specs.Phases.{MayRun, lines_of};
+ghost use Rattle.workers_core.specs.Made.{ArePassesFor, IsOwnLine, IsServed, MayPutLines, SeatsStay, TakesWithin};
+ghost use Rattle.workers_core.specs.Phases.{MayDrop, MayRun, lines_of};
 ghost use Rattle.workers_core.specs.Ready.{MayTakeAll, Serves, ServesJob, all_gains};
 
 use crate::actors::Actor;
@@ -30,7 +30,8 @@ use txn_core::Parcel;
 pub struct Rooms {
     /// The bytes of its buffer for one loaded body.
     pub body: u64,
-    /// The length of its list of drops.
+    /// The length of its list of drops: one for each of its puts to last-value queues; and where it puts to a ring, as
+    /// many besides as all queues of the phase have rows.
     pub drops: u64,
 }
 
@@ -45,6 +46,7 @@ pub struct Unmade<Q: SharedQueue<Parcel>> {
 struct Gear {
     jobs: Vec<Job>,
     held: Vec<Kept>,
+    stopped: Vec<bool>,
     log: Vec<(u64, Answer)>,
     drops: Vec<Dropped>,
     body: Buffer,
@@ -67,7 +69,6 @@ impl<Q: SharedQueue<Parcel>> Actor<Q> {
         room: Rooms,
     ) -> Result<Actor<Q>, Unmade<Q>>
         requires allowed { AreAllowed (queues_in defs.now) }
-        requires kinds { AllByRecursion (λ def. GoesByNoHeader def.kind) (queues_in defs.now) }
         requires lines { AllByRecursion (IsOpOf (queues_in defs.now) false name) ops.items }
         requires served { AllByRecursion (λ op. IsServed op.what) ops.items }
         requires passes { ArePassesFor name (queues_in defs.now) (map Q.sight passes.items) }
@@ -79,7 +80,10 @@ impl<Q: SharedQueue<Parcel>> Actor<Q> {
             (map (option_map (λ b. seat (b.vtable, b.value))) roster.slots)
             (map (option_map (λ b. seat (b.vtable, b.value))) a.roster.slots)) }
         ensures empty { IfOk result (λ a. (a.held.items ≡ []) × (a.log.items ≡ []) × (a.drops.items ≡ [])) }
+        ensures stopped { IfOk result (λ a. a.stopped.items ≡ replicate (length (queues_in defs.now)) false) }
         ensures rooms { IfOk result (λ a. (room.body ≤ a.body.room) × (room.drops ≤ vec_capacity a.drops)) }
+        ensures drops { (rows : ℕ) → MayDrop (queues_in defs.now) rows ops.items room.drops
+            → IfOk result (λ a. MayDrop (queues_in defs.now) rows (lines_of a.jobs.items) (vec_capacity a.drops)) }
         ensures may { IfOk result (λ a. MayRun (queues_in defs.now) (map Q.sight a.passes.items)
             (map (option_map (λ b. seat (b.vtable, b.value))) a.roster.slots)
             a.jobs.items (vec_capacity a.held) (vec_capacity a.log)) }
@@ -93,6 +97,7 @@ impl<Q: SharedQueue<Parcel>> Actor<Q> {
                 let Gear {
                     jobs,
                     held,
+                    stopped,
                     log,
                     drops,
                     body,
@@ -104,6 +109,7 @@ impl<Q: SharedQueue<Parcel>> Actor<Q> {
                     passes,
                     held,
                     roster,
+                    stopped,
                     log,
                     drops,
                     body,
@@ -134,7 +140,6 @@ fn place_of(defs: &Defs, consumer: u32) -> Option<(u32, u32)>
 /// What a line needs beside its words.
 fn aid_of(alloc: Global, defs: &Defs, op: &Op) -> Result<Aid, NoMemory>
     requires allowed { AreAllowed (queues_in defs.now) }
-    requires kinds { AllByRecursion (λ def. GoesByNoHeader def.kind) (queues_in defs.now) }
     requires own { IsOwnLine (queues_in defs.now) op.now }
     ensures fits { IfOk result (JobFits (queues_in defs.now) op.now.what) }
     ensures serves { (sights : List Sight) → ArePassesFor op.now.actor (queues_in defs.now) sights
@@ -164,7 +169,6 @@ fn aid_of(alloc: Global, defs: &Defs, op: &Op) -> Result<Aid, NoMemory>
 /// The lines, each with what it needs beside its words, the last one first.
 fn jobs_of(alloc: Global, defs: &Defs, ops: Vec<Op>) -> Result<Vec<Job>, NoMemory>
     requires allowed { AreAllowed (queues_in defs.now) }
-    requires kinds { AllByRecursion (λ def. GoesByNoHeader def.kind) (queues_in defs.now) }
     requires own { AllByRecursion (IsOwnLine (queues_in defs.now)) ops.items }
     ensures lines { IfOk result (λ jobs. lines_of jobs.items ≡ ops.items) }
     ensures fits { IfOk result (λ jobs. AllByRecursion (λ j. JobFits (queues_in defs.now) j.op.what j.aid) jobs.items) }
@@ -249,7 +253,6 @@ fn equip(
     room: Rooms,
 ) -> Result<Gear, NoMemory>
     requires allowed { AreAllowed (queues_in defs.now) }
-    requires kinds { AllByRecursion (λ def. GoesByNoHeader def.kind) (queues_in defs.now) }
     requires own { AllByRecursion (IsOwnLine (queues_in defs.now)) ops.items }
     ensures lines { IfOk result (λ g. lines_of g.jobs.items ≡ ops.items) }
     ensures fits { IfOk result (λ g. AllByRecursion (λ j. JobFits (queues_in defs.now) j.op.what j.aid) g.jobs.items) }
@@ -263,6 +266,7 @@ fn equip(
         (map (option_map (λ b. seat (b.vtable, b.value))) roster.new.slots) g.jobs.items) }
     ensures held { IfOk result (λ g. (g.held.items ≡ []) × (all_gains g.jobs.items ≤ vec_capacity g.held)) }
     ensures log { IfOk result (λ g. (g.log.items ≡ []) × (vec_len g.jobs ≤ vec_capacity g.log)) }
+    ensures stopped { IfOk result (λ g. g.stopped.items ≡ replicate (length (queues_in defs.now)) false) }
     ensures drops { IfOk result (λ g. (g.drops.items ≡ []) × (room.drops ≤ vec_capacity g.drops)) }
     ensures body { IfOk result (λ g. room.body ≤ g.body.room) }
 {
@@ -273,6 +277,9 @@ fn equip(
     let Ok(log) = Vec::with_capacity(alloc, jobs.len()) else {
         return Err(NoMemory);
     };
+    let Ok(stopped) = Vec::from_elem(alloc, false, defs.queues.len()) else {
+        return Err(NoMemory);
+    };
     let Ok(drops) = Vec::with_capacity(alloc, room.drops as usize) else {
         return Err(NoMemory);
     };
@@ -281,6 +288,7 @@ fn equip(
     Ok(Gear {
         jobs,
         held,
+        stopped,
         log,
         drops,
         body,

@@ -1,8 +1,9 @@
 //! Takes: an entry goes into the hands, and its body to the consumer's target.
-ghost use Rattle.std.specs.Prelude.{ℕ, List, vec_len, vec_capacity, map, slice_set, Some, None, ◌<◌, ◌+◌, ◌≤◌, ◌≡◌};
+ghost use Rattle.std.specs.Prelude.{ℕ, Bool, List, vec_len, vec_capacity, map, slice_set, Some, None, ◌<◌, ◌+◌, ◌≤◌, ◌≡◌};
 ghost use Rattle.std.specs.Option.{option_map};
 ghost use mathlib.Core.List.{Mem};
 ghost use Rattle.defs_read.specs.Defined.{Defined};
+ghost use Rattle.report_core.specs.declared.answers.Dropped.{Dropped};
 ghost use Rattle.script_read.specs.declared.lines.What.TheVariants.{Take};
 ghost use Rattle.target_core.specs.Seats.{Seat, seat_at, served};
 ghost use Rattle.target_core.specs.declared.deliveries.Delivery.{Delivery};
@@ -66,16 +67,21 @@ pub(crate) fn take_line<Q: SharedQueue<Parcel>>(
     ensures serves { Q.serves queue.now pass.new }
     ensures hold { Hold (Q.sight pass.new) number (hands_of held.new.items) }
     ensures others { KeepsOthers number (hands_of held.old.items) (hands_of held.new.items) }
-    ensures did { (defs : List Defined) → place_of defs consumer ≡ Some (number, place)
+    ensures did { (defs : List Defined) (stopped : List Bool) (drops : List Dropped)
+        → place_of defs consumer ≡ Some (number, place)
         → DidOn defs (Q.build queue.now) number (Q.sight pass.old)
         (record {
           hands = hands_of held.old.items;
           seats = map (option_map (λ b. seat (b.vtable, b.value))) roster.old.slots;
+          stopped = stopped;
+          drops = drops;
         })
         (Take consumer) result (Q.sight pass.new)
         (record {
           hands = hands_of held.new.items;
           seats = map (option_map (λ b. seat (b.vtable, b.value))) roster.new.slots;
+          stopped = stopped;
+          drops = drops;
         }) }
     ensures room { (vec_len held.new ≤ vec_len held.old + 1) × (vec_capacity held.new ≡ vec_capacity held.old) }
 {

@@ -1,10 +1,11 @@
-use Rattle.std.proofs.Common.{◌≡◌, [], length, map, ap, arith, vec_len, vec_capacity}
+use Rattle.std.proofs.Common.{◌≡◌, [], false, length, map, replicate, ap, arith, vec_len, vec_capacity}
 use Rattle.std.specs.Option.{option_map}
 use Rattle.std.specs.Vec.Iter.{into_iter_items}
-use Rattle.any_queue.specs.Kinds.{ServesAny, sight_in}
+use Rattle.any_queue.specs.Kinds.{ServesAny, build_in, sight_in}
 use Rattle.defs_read.specs.Defined.{queues_in}
 use Rattle.script_read.specs.Allowed.{HasOwnOps}
-use Rattle.workers_core.specs.Phases.{MayRun}
+use Rattle.workers_core.specs.Drops.{all_rows}
+use Rattle.workers_core.specs.Phases.{MayDrop, MayRun, lines_of}
 use Rattle.workers_core.specs.Ready.{AllServe}
 use Rattle.workers_core.proofs.OneJob.{map_length}
 use Rattle.phase_actors.specs.Cast.{HasServedOps}
@@ -88,7 +89,9 @@ actors-preserved g c =
           × MayRun (queues_in c.args.defs.now) (map sight_in a.passes.items)
           (map (option_map (λ b. (goal.Target-dyn g (b.vtable, b.value)).seat b.value)) a.roster.slots)
           a.jobs.items (vec_capacity a.held) (vec_capacity a.log)
-          × (a.held.items ≡ []) × (a.log.items ≡ []))
+          × MayDrop (queues_in c.args.defs.now) (all_rows (map build_in c.args.queues.now)) (lines_of a.jobs.items) (vec_capacity a.drops)
+          × (a.held.items ≡ []) × (a.log.items ≡ []) × (a.drops.items ≡ [])
+          × (a.stopped.items ≡ replicate (length (queues_in c.args.defs.now)) false))
           v.run made.may);
       serve = made.serve;
       bosses = omega (arith, made.split.bosses, map_length sight_in olds, map_length sight_in news, v.bosses, c.actors.bosses.ok, c.make_actor.new.bosses.ok);

@@ -18,6 +18,7 @@ actors-init g c = record {
   targets = return_none _;
   names = ap (map (λ (x : Log). x.name)) c.requires.logs.0;
   logs = ap (map (λ (x : Log). x.lines.items)) c.requires.logs.0;
+  drops = ap (map (λ (x : Log). x.drops.items)) c.requires.logs.0;
   room = let none : length c.args.logs.now.items ≡ 0 = ap length c.requires.logs.0 in omega (arith, none, c.args.logs.now.ok.0, c.requires.logs.1, c.reverse.ensures.len);
 }
 
@@ -68,5 +69,10 @@ actors-preserved g c =
           ∙ map-append (λ (x : Log). x.lines.items) c.actors.logs.items (c.join_actor-log.result ∷ [])
           ∙ ap₂ (λ xs x. xs ++ x ∷ []) i.logs it.log.1
           ∙ sym (shown_one all rest i.done actor next (λ a. a.log.items));
+      drops =
+          ap (map (λ (x : Log). x.drops.items)) c.push_reserved.ensures.items
+          ∙ map-append (λ (x : Log). x.drops.items) c.actors.logs.items (c.join_actor-log.result ∷ [])
+          ∙ ap₂ (λ xs x. xs ++ x ∷ []) i.drops it.log.2
+          ∙ sym (shown_one all rest i.done actor next (λ a. a.drops.items));
       room = omega (arith, i.room, c.in-Some.ensures.len, c.push_reserved.ensures.len, c.push_reserved.ensures.capacity);
     }

@@ -18,6 +18,7 @@ invariant-actors g l = record {
       (map (option_map (λ b. (goal.Target-dyn g (b.vtable, b.value)).seat b.value)) l.roster.slots);
   names : map (λ x. x.name) l.logs.items ≡ map (λ a. a.name) (take done l.fn.actors.items);
   logs : map (λ x. x.lines.items) l.logs.items ≡ map (λ a. a.log.items) (take done l.fn.actors.items);
+  drops : map (λ x. x.drops.items) l.logs.items ≡ map (λ a. a.drops.items) (take done l.fn.actors.items);
   room : vec_len l.logs + vec_len l.actors ≤ vec_capacity l.logs;
 }
 

@@ -33,7 +33,7 @@ join_actors-requires-clause-passes g c = λ i a at.
     let within = slice_get_within ran i a at_ran in
     let less : i < length all = omega (arith, within, many, c.args.actors.ok.0) in
     let long : length (map build_in c.args.queues.now) ≡ length bosses = length-map c.args.queues.now build_in ∙ (omega (arith, c.requires.as_many, c.args.bosses.now.ok.0)) ∙ sym (length-map c.args.bosses.now.items sight_in) in
-    let of = after_run (queues_in c.args.defs.now) (map build_in c.args.queues.now) bosses _ _ (i + 1) _ _ _ _ long
+    let of = after_run (queues_in c.args.defs.now) (map build_in c.args.queues.now) bosses _ _ (i + 1) _ _ _ _ _ long
     (c.requires.unused i (get_or all i a) (slice_get-get_or all i a less)) (runs i a less).1 in
     subst (λ z. AreOfCaller bosses (i + 1) (map sight_in z.passes.items)) (get_or_from_slice_get ran i a a at_ran) of
 
@@ -52,11 +52,12 @@ returns-clause-played g c =
     let targets = rw whole at c.join_actors.ensures.targets in
     let names = rw whole at c.join_actors.ensures.names in
     let lines = rw whole at c.join_actors.ensures.logs in
-    played_of all ran (λ a. a.name) (λ a. lines_of a.jobs.items) (λ a. a.log.items) (λ a. map sight_in a.passes.items)
+    let dropped = rw whole at c.join_actors.ensures.drops in
+    played_of all ran (λ a. a.name) (λ a. lines_of a.jobs.items) (λ a. a.log.items) (λ a. a.drops.items) (λ a. map sight_in a.passes.items)
     (λ a. map (option_map (λ b. (goal.Target-dyn g (b.vtable, b.value)).seat b.value)) a.roster.slots)
     (queues_in c.args.defs.now) (map build_in c.args.queues.now) bosses (map sight_in c.join_actors.new.bosses.items) _ _ c.join_actors.new.logs.items
     log_told long
     (λ i d less. (named i d less, (runs i d less).1))
     c.requires.unused
     (λ q s at. (c.requires.bosses q s at).made ∙ ap (λ (n : ℕ). n + 1) count)
-    joined targets names lines
+    joined targets names lines dropped

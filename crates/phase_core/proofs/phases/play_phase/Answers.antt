@@ -1,4 +1,4 @@
-use Rattle.std.proofs.Common.{rules, ◌≡◌, ◌+◌, ℕ, false, Some, length, map, slice_get, vec_len, refl, sym, ap, ◌∙◌, arith}
+use Rattle.std.proofs.Common.{rules, ◌≡◌, ◌+◌, ◌≤◌, ℕ, false, Some, length, map, slice_get, vec_len, refl, sym, ap, ◌∙◌, arith}
 use Rattle.std.specs.Option.{option_map}
 use Rattle.std.proofs.lemmas.List.{length-map}
 use Rattle.acts_core.specs.Sight.{Sight}
@@ -6,18 +6,20 @@ use Rattle.defs_read.specs.Defined.{Defined, queues_in}
 use Rattle.script_read.specs.Allowed.{ops_in}
 use Rattle.script_read.specs.Phases.{actors_in}
 use Rattle.phase_text.specs.declared.logs.Rest.{Rest}
-use Rattle.any_queue.specs.Kinds.{sight_in}
+use Rattle.any_queue.specs.Kinds.{build_in, sight_in}
+use Rattle.workers_core.specs.Drops.{all_rows}
 use Rattle.workers_core.specs.Phases.{lines_of}
 use Rattle.phase_queues.specs.Left.{rows_left}
 use Rattle.phase_core.proofs.Accounts.{are_last, opens_now, plays_phase}
 use Rattle.account_core.proofs.Closing.{closed_played}
 use Rattle.account_core.proofs.EntryCounts.{opens_count}
 use Rattle.account_core.proofs.Printing.{states_named}
-use Rattle.account_core.proofs.Putting.{rows_count}
+use Rattle.account_core.proofs.Putting.{few_entered, rows_count}
 use Rattle.account_core.proofs.Serving.{story_serves}
 use Rattle.account_core.proofs.Settled.{settles}
-use Rattle.phase_core.proofs.Opening.{all_listed, bosses_many, has_room, may_cast, unused_of}
+use Rattle.phase_core.proofs.Opening.{are_of_kinds, bosses_many, has_room, may_cast, unused_of}
 use Rattle.phase_core.proofs.Places.{on_err}
+use Rattle.phase_core.proofs.Rows.{lefts_many, opened_rows}
 use Rattle.phase_core.proofs.Seating.{has_for, same_seats, same_target, seats_go}
 use Rattle.phase_core.proofs.phases.play_phase.Goals as goal
 
@@ -83,6 +85,31 @@ make_actors-requires-clause-may g c =
     may_cast (queues_in c.args.defs.now) c.args.left.items c.deref.result.now c.in_ok-opened.opened.queues.items c.in_ok-opened.opened.bosses.items c.in_ok-opened.ensures.opened
     (rows_left c.args.left.items) (actors_in c.args.phase) c.in_ok-opened.ensures.opens (rw c.deref.ensures.value c.in_ok-puts.ensures.each)
 
+pub rows_of-rows-requires-clause-queues : goal.rows_of-rows-requires-clause-queues
+rows_of-rows-requires-clause-queues g c =
+    let many = lefts_many (queues_in c.args.defs.now) c.args.left.items c.requires.stay in
+    rw c.as_slice.ensures.value (omega (arith, many, c.requires.allowed.few))
+
+pub rows_of-rows-requires-clause-as_many : goal.rows_of-rows-requires-clause-as_many
+rows_of-rows-requires-clause-as_many g c =
+    let many = lefts_many (queues_in c.args.defs.now) c.args.left.items c.requires.stay in
+    let counted : length c.in_ok-puts.puts.items ≡ length c.args.left.items = omega (arith, many, c.in_ok-puts.ensures.as_many, c.in_ok-puts.puts.ok.0) in
+    ap length c.as_slice-2.ensures.value ∙ counted ∙ sym (ap length c.as_slice.ensures.value)
+
+pub rows_of-rows-requires-clause-room : goal.rows_of-rows-requires-clause-room
+rows_of-rows-requires-clause-room g c =
+    let long : length c.in_ok-puts.puts.items ≡ length (queues_in c.args.defs.now) = omega (arith, c.in_ok-puts.ensures.as_many, c.in_ok-puts.puts.ok.0) in
+    let room = has_room c.args.left.items (ops_in (actors_in c.args.phase)) c.in_ok-puts.puts.items (length (queues_in c.args.defs.now)) long c.in_ok-puts.ensures.each c.requires.few in
+    rw c.as_slice.ensures.value (rw c.as_slice-2.ensures.value room)
+
+pub make_actors-requires-clause-rows : goal.make_actors-requires-clause-rows
+make_actors-requires-clause-rows g c =
+    let many = lefts_many (queues_in c.args.defs.now) c.args.left.items c.requires.stay in
+    let all = rw c.deref.ensures.value at (opened_rows (queues_in c.args.defs.now) c.args.left.items c.deref.result.now c.in_ok-opened.opened.queues.items c.in_ok-opened.opened.bosses.items c.in_ok-opened.ensures.opened many) in
+    let counted = rw c.as_slice.ensures.value at (rw c.as_slice-2.ensures.value at c.rows_of-rows.ensures) in
+    let within : all_rows (map build_in c.in_ok-opened.opened.queues.items) ≤ c.rows_of-rows.result = omega (arith, all, counted) in
+    rw c.deref-2.ensures.value within
+
 pub returns-in_err-actors-clause-kept : goal.returns-in_err-actors-clause-kept
 returns-in_err-actors-clause-kept g c = search (rules, on_err, c.in_err-actors.ensures.kept)
 
@@ -91,9 +118,13 @@ play_actors-requires-clause-as_many g c κs within =
     let split = bosses_many c.in_ok-opened.opened.bosses.items c.make_actors.new.bosses.items (vec_len c.in_ok-actors.actors + 1) c.in_ok-actors.ensures.bosses in
     ap length c.deref-3.ensures.value ∙ omega (arith, split, c.in_ok-opened.ensures.opened.as_many, c.in_ok-opened.ensures.opened.passes, c.make_actors.new.bosses.ok.0)
 
-pub play_actors-requires-clause-kind : goal.play_actors-requires-clause-kind
-play_actors-requires-clause-kind g c κs within =
-    rw c.deref-3.ensures.value (all_listed (queues_in c.args.defs.now) c.args.left.items c.deref.result.now c.in_ok-opened.opened.queues.items c.in_ok-opened.opened.bosses.items c.in_ok-opened.ensures.opened)
+pub play_actors-requires-clause-kinds : goal.play_actors-requires-clause-kinds
+play_actors-requires-clause-kinds g c κs within =
+    rw c.deref-3.ensures.value (are_of_kinds (queues_in c.args.defs.now) c.args.left.items c.deref.result.now c.in_ok-opened.opened.queues.items c.in_ok-opened.opened.bosses.items c.in_ok-opened.ensures.opened
+    (rows_left c.args.left.items) c.in_ok-opened.ensures.opens)
+
+pub play_actors-requires-clause-policies : goal.play_actors-requires-clause-policies
+play_actors-requires-clause-policies g c κs within = c.requires.policies
 
 pub play_actors-requires-clause-serve : goal.play_actors-requires-clause-serve
 play_actors-requires-clause-serve g c κs within = rw c.deref-3.ensures.value (rw c.deref-2.ensures.value at c.in_ok-actors.ensures.serve)
@@ -153,7 +184,7 @@ close_queues-requires-clause-last g c =
     let split = bosses_many opened begun (vec_len c.in_ok-actors.actors + 1) made.bosses in
     let many : length lasts ≡ length queues = omega (arith, played.joined.as_many, length-map lasts sight_in, length-map begun sight_in, split, ready.opened.passes, ready.opened.as_many) in
     let numbered : (q : ℕ) (s : Sight) → slice_get (map sight_in begun) q ≡ Some s → s.made ≡ length actors + 1 = λ q s at. (made.bosses.each q s at).made ∙ omega (arith, count, c.in_ok-actors.actors.ok.0) in
-    are_last defs c.args.left.items actors _ queues opened begun lasts _ _ _ many ready.opens made.bosses.openings numbered c.requires.once played settles rows_count opens_count
+    are_last defs c.args.left.items actors _ queues opened begun lasts _ _ _ many ready.opens made.bosses.openings numbered c.requires.once played settles rows_count few_entered opens_count
 
 pub close_queues-requires-clause-rests : goal.close_queues-requires-clause-rests
 close_queues-requires-clause-rests g c =
@@ -189,7 +220,7 @@ returns-clause-plays g c =
     let has = has_for c.in_ok-actors.actors.items (λ a. a.name) (λ a. lines_of a.jobs.items) (λ a. map (option_map (λ b. (goal.Target-dyn g (b.vtable, b.value)).seat b.value)) a.roster.slots) _ played.stories
     (played.lines ∙ sym made.lines) played.begun (λ i a at. (made.cast i a at).1.targets) in
     let go = seats_go defs false actors played.stories _ _ _ story_serves c.requires.phase played.lines played.fit has made.roster played.returned in
-    plays_phase defs c.args.left.items actors _ queues opened begun lasts _ _ _ many ready.opens made.bosses.openings numbered c.requires.once played settles rows_count opens_count closed_played states_named _ _ refl c.requires.phase go
+    plays_phase defs c.args.left.items actors _ queues opened begun lasts _ _ _ many ready.opens made.bosses.openings numbered c.requires.once played settles rows_count few_entered opens_count closed_played states_named _ _ refl c.requires.phase go
     (c.close_queues.ensures.told defs ready.names) c.close_queues.ensures.left
-    (c.close_queues.ensures.stay defs (rows_left c.args.left.items) (opens_now defs c.args.left.items actors _ queues opened begun lasts _ _ _ many ready.opens made.bosses.openings numbered c.requires.once played settles rows_count opens_count))
+    (c.close_queues.ensures.stay defs (rows_left c.args.left.items) (opens_now defs c.args.left.items actors _ queues opened begun lasts _ _ _ many ready.opens made.bosses.openings numbered c.requires.once played settles rows_count few_entered opens_count))
     c.close_queues.ensures.rows

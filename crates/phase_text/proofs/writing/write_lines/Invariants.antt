@@ -7,4 +7,4 @@ use Rattle.phase_text.proofs.writing.write_lines.Given as goal
 
 abbrev pub invariant-lines : goal.invariant-lines
 invariant-lines g l = Says {E = Failed} (Ok (record {})) (g.K.Sink.written l.initial.out) (g.K.Sink.written l.out)
-    (g.K.Sink.faults l.initial.out) (g.K.Sink.faults l.out) (flat_map (line_text l.queues l.actors l.name) (take l.line-index l.lines))
+    (g.K.Sink.faults l.initial.out) (g.K.Sink.faults l.out) (flat_map (line_text l.queues l.actors l.drops l.name) (take l.line-index l.lines))

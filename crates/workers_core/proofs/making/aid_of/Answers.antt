@@ -1,12 +1,11 @@
 use Rattle.std.proofs.Common.{sym, subst, ◌∙◌}
 use Rattle.defs_read.specs.Allowed.{IsAllowed}
-use Rattle.defs_read.specs.Defined.{Defined, defined, queues_in}
+use Rattle.defs_read.specs.Defined.{defined, queues_in}
 use Rattle.script_read.specs.declared.lines.What.{What}
 use Rattle.workers_core.specs.Jobs.{JobFits}
-use Rattle.workers_core.specs.Made.{GoesByNoHeader}
 use Rattle.workers_core.specs.Ready.{Serves}
 use Rattle.workers_core.specs.declared.jobs.Aid.TheVariants.{Slip}
-use Rattle.workers_core.proofs.Served.{all_at, all_got, def_at, needs_nothing, no_place, serves_other, serves_put, serves_take}
+use Rattle.workers_core.proofs.Served.{all_at, def_at, needs_nothing, no_place, serves_other, serves_put, serves_take}
 use Rattle.workers_core.proofs.making.aid_of.Goals as goal
 
 pub unreachable-requires : goal.unreachable-requires
@@ -25,10 +24,9 @@ returns-in_ok-slip-in-Put-clause-serves c = λ sights passes.
     let defs = queues_in c.args.defs.now in
     let def = defined c.index.result.now in
     let there = def_at c.args.defs.now c.in-Put.queue c.index.result.now c.args.op.now.actor c.args.op.now.what c.in-Put.message c.in-Put.is c.requires.own.0 c.index.ensures in
-    let plain = all_got (λ (d : Defined). GoesByNoHeader d.kind) defs c.in-Put.queue def c.requires.kinds there in
     let told = c.in_ok-slip-in-Put.ensures in
     subst (λ (w : What). Serves sights w (Slip c.in_ok-slip-in-Put.slip)) (sym c.in-Put.is)
-    (serves_put c.args.op.now.actor defs sights passes c.in-Put.queue c.in-Put.message def c.in_ok-slip-in-Put.slip there plain told.slip told.fits told.key)
+    (serves_put c.args.op.now.actor defs sights passes c.in-Put.queue c.in-Put.message def c.in_ok-slip-in-Put.slip there told.slip told.fits)
 
 pub returns-in-Some-clause-serves : goal.returns-in-Some-clause-serves
 returns-in-Some-clause-serves c = λ sights passes. serves_take c.args.op.now.actor (queues_in c.args.defs.now) sights passes c.in-Take.consumer c.in-Some.queue c.in-Some.place c.args.op.now.what c.requires.allowed.consumers c.in-Take.is c.requires.own.0 (sym c.place_of.ensures ∙ c.in-Some.is)

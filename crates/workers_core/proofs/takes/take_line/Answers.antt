@@ -21,20 +21,20 @@ hand_over-requires-clause-room g c =
     (x.0, x.1, some)
 
 pub returns-in-Some-eq0-clause-did : goal.returns-in-Some-eq0-clause-did
-returns-in-Some-eq0-clause-did g c = λ defs place.
+returns-in-Some-eq0-clause-did g c = λ defs stopped drops place.
     let x = some_seat _ c.in-Some-eq0.field-0 c.in-Some-eq0.ensures.room in
     let none : x.0.room ≡ 0 = grind (arith, nat_tests, x.2, c.in-Some-eq0.field-0-test, c.in-Some-eq0.field-0-is) in
-    no_credit (g.Q.SharedQueue.build c.args.queue.now) (g.Q.SharedQueue.sight c.args.pass.now) c.args.number c.args.place c.args.consumer _ _ x.0 x.1 (full x.0 (subst (IsReady 1) x.1 c.requires.ready) none) defs
+    no_credit (g.Q.SharedQueue.build c.args.queue.now) (g.Q.SharedQueue.sight c.args.pass.now) c.args.number c.args.place c.args.consumer _ _ stopped drops x.0 x.1 (full x.0 (subst (IsReady 1) x.1 c.requires.ready) none) defs
 
 pub returns-in-Empty-clause-hold : goal.returns-in-Empty-clause-hold
 returns-in-Empty-clause-hold g c =
     missed_hold (g.Q.SharedQueue.build c.args.queue.now) (g.Q.SharedQueue.sight c.args.pass.now) (g.Q.SharedQueue.sight c.next.new.pass) c.args.number c.args.place (hands_of c.args.held.now.items) c.in-Empty.ensures.called.1 c.requires.hold
 
 pub returns-in-Empty-clause-did : goal.returns-in-Empty-clause-did
-returns-in-Empty-clause-did g c = λ defs place.
+returns-in-Empty-clause-did g c = λ defs stopped drops place.
     let x = some_seat _ c.in-Some.field-0 c.in-Some.ensures.room in
     let some : 0 < x.0.room = grind (arith, nat_tests, x.2, c.in-Some.field-0-test, c.in-Some.field-0-is) in
-    missed (g.Q.SharedQueue.build c.args.queue.now) (g.Q.SharedQueue.sight c.args.pass.now) c.args.number c.args.place c.args.consumer _ _ (g.Q.SharedQueue.sight c.next.new.pass) x.0 x.1 (not_full x.0 (subst HasRoomWithin x.1 c.room.ensures.within) some) c.in-Empty.ensures.called.1 defs place
+    missed (g.Q.SharedQueue.build c.args.queue.now) (g.Q.SharedQueue.sight c.args.pass.now) c.args.number c.args.place c.args.consumer _ _ stopped drops (g.Q.SharedQueue.sight c.next.new.pass) x.0 x.1 (not_full x.0 (subst HasRoomWithin x.1 c.room.ensures.within) some) c.in-Empty.ensures.called.1 defs place
 
 pub returns-in-Got-clause-hold : goal.returns-in-Got-clause-hold
 returns-in-Got-clause-hold g c =
@@ -51,7 +51,7 @@ returns-in-Got-clause-others g c =
     subst (KeepsOthers c.args.number (hands_of c.args.held.now.items)) (sym c.gain.ensures.gained) (others_gained c.args.number (hand c.args.number c.in-Got.row c.id-id.result (Some (load_of c.raise.new.self))) (hands_of c.args.held.now.items) refl)
 
 pub returns-in-Got-clause-did : goal.returns-in-Got-clause-did
-returns-in-Got-clause-did g c = λ defs place.
+returns-in-Got-clause-did g c = λ defs stopped drops place.
     let old = load_of c.in-Got.cargo in
     let raised : load_of c.raise.new.self ≡ delivered (number_after old.count) old = ap (λ (s : Shown). load s) c.raise.ensures.raised in
     let id : c.id-id.result ≡ old.id = c.id-id.ensures ∙ ap (λ (l : Load). l.id) raised in
@@ -60,6 +60,6 @@ returns-in-Got-clause-did g c = λ defs place.
     let x = some_seat _ c.in-Some.field-0 c.in-Some.ensures.room in
     let some : 0 < x.0.room = grind (arith, nat_tests, x.2, c.in-Some.field-0-test, c.in-Some.field-0-is) in
     let handed = c.hand_over.ensures.handed x.0 x.1 in
-    got (g.Q.SharedQueue.build c.args.queue.now) (g.Q.SharedQueue.sight c.args.pass.now) c.args.number c.args.place c.args.consumer _ _ (g.Q.SharedQueue.sight c.next.new.pass) x.0 c.in-Got.row c.in-Got.ensures.called.0 c.id-id.result c.count-count.result old handed.0 (hands_of c.gain.new.held.items) _
+    got (g.Q.SharedQueue.build c.args.queue.now) (g.Q.SharedQueue.sight c.args.pass.now) c.args.number c.args.place c.args.consumer _ _ stopped drops (g.Q.SharedQueue.sight c.next.new.pass) x.0 c.in-Got.row c.in-Got.ensures.called.0 c.id-id.result c.count-count.result old handed.0 (hands_of c.gain.new.held.items) _
     x.1 (not_full x.0 (subst HasRoomWithin x.1 c.room.ensures.within) some) c.in-Got.ensures.called.1 id number
     (told_of c.args.consumer c.args.number c.count-count.result (number_after old.count) old (load_of c.raise.new.self) handed.0 raised c.count-count.ensures handed.1) after handed.2 defs place
