@@ -55,12 +55,7 @@ fn disk_of(rt: HostRuntime, words: &[String]) -> Result<FileDisk, AllocError> {
 }
 
 /// Does what these words ask for on this disk, with a target for each consumer that takes all that it is handed.
-fn run_words<
-    R: Threads + Wait + Clone + Send + Sync + Drop,
-    S: Source,
-    K: Sink,
-    D: Disk + Drop,
->(
+fn run_words<R: Threads + Wait + Clone + Send + Sync + Drop, S: Source, K: Sink, D: Disk + Drop>(
     rt: &R,
     alloc: Global,
     words: &[String],
@@ -72,8 +67,9 @@ fn run_words<
     'consumers: for _consumer in 0..CONSUMERS {
         targets.push(Box::new(alloc, PlainTarget::make(alloc, None))?)?;
     }
-    let (status, _disk, _targets) =
-        run_command(rt, alloc, words, input, out, disk, &FreeGate, targets);
+    let (status, _disk, _targets) = run_command(
+        rt, alloc, words, input, out, disk, &FreeGate, targets,
+    );
     Ok(status)
 }
 
