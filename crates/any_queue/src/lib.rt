@@ -1,8 +1,10 @@
 //! Queues of all kinds as one.
 #![tactic(auto)]
 
+mod held;
 mod kinds;
 mod listed;
+mod lists;
 mod passes;
 
 pub use kinds::{AnyPass, AnyQueue, ListedPass};

@@ -10,6 +10,7 @@ use crate::tests::Empty;
 use crate::{AnyPass, AnyQueue};
 use acts_core::{Placed, SharedQueue};
 use std::alloc::{AllocError, Global};
+use std::sync::Wait;
 use std::test::Fail;
 use std::thread::{Threads, join};
 
@@ -50,7 +51,7 @@ fn sum(one: Tally, two: Tally) -> Tally {
 }
 
 /// Leaves the oldest entry, and locks it again and gives it back, unless it was stolen meanwhile.
-fn leave_and_lock(queue: &AnyQueue<Empty>, pass: &mut AnyPass)
+fn leave_and_lock<W: Wait + Send + Sync + Drop>(queue: &AnyQueue<Empty, W>, pass: &mut AnyPass)
     requires serves { ServesAny queue.now pass.old }
     ensures serves { ServesAny queue.now pass.new }
     ensures opening { (sight_in pass.new).opening ≡ (sight_in pass.old).opening }
@@ -61,7 +62,11 @@ fn leave_and_lock(queue: &AnyQueue<Empty>, pass: &mut AnyPass)
 }
 
 /// Takes the entry of this id out, where somebody had left it, and answers the id.
-fn stolen(queue: &AnyQueue<Empty>, pass: &mut AnyPass, id: u64) -> Option<u64>
+fn stolen<W: Wait + Send + Sync + Drop>(
+    queue: &AnyQueue<Empty, W>,
+    pass: &mut AnyPass,
+    id: u64,
+) -> Option<u64>
     requires serves { ServesAny queue.now pass.old }
     ensures serves { ServesAny queue.now pass.new }
     ensures opening { (sight_in pass.new).opening ≡ (sight_in pass.old).opening }
@@ -74,7 +79,11 @@ fn stolen(queue: &AnyQueue<Empty>, pass: &mut AnyPass, id: u64) -> Option<u64>
 }
 
 /// Leaves one entry and locks it again, leaves another, and takes out one that was left and one that was not.
-fn round(queue: &AnyQueue<Empty>, pass: &mut AnyPass, id: u64) -> Tally
+fn round<W: Wait + Send + Sync + Drop>(
+    queue: &AnyQueue<Empty, W>,
+    pass: &mut AnyPass,
+    id: u64,
+) -> Tally
     requires serves { ServesAny queue.now pass.old }
     ensures serves { ServesAny queue.now pass.new }
     ensures opening { (sight_in pass.new).opening ≡ (sight_in pass.old).opening }
@@ -87,7 +96,11 @@ fn round(queue: &AnyQueue<Empty>, pass: &mut AnyPass, id: u64) -> Tally
 }
 
 /// Puts entries of the ids from this one on, and then makes half as many rounds.
-fn work(queue: &AnyQueue<Empty>, pass: AnyPass, first: u64) -> Worked
+fn work<W: Wait + Send + Sync + Drop>(
+    queue: &AnyQueue<Empty, W>,
+    pass: AnyPass,
+    first: u64,
+) -> Worked
     requires serves { ServesAny queue.now pass }
     requires allowed { PUTS ≤ (sight_in pass).allowance }
     requires lists { (sight_in pass).opening.lists ≡ 1 }
@@ -105,9 +118,9 @@ fn work(queue: &AnyQueue<Empty>, pass: AnyPass, first: u64) -> Worked
 }
 
 /// Two threads work.
-fn both_work<R: Threads + Sync>(
+fn both_work<R: Threads + Sync, W: Wait + Send + Sync + Drop>(
     rt: &R,
-    queue: &AnyQueue<Empty>,
+    queue: &AnyQueue<Empty, W>,
     one: AnyPass,
     two: AnyPass,
     first: u64,
@@ -126,7 +139,7 @@ fn both_work<R: Threads + Sync>(
 }
 
 /// Takes all that is left out.
-fn drain(queue: &AnyQueue<Empty>, pass: &mut AnyPass) -> Tally
+fn drain<W: Wait + Send + Sync + Drop>(queue: &AnyQueue<Empty, W>, pass: &mut AnyPass) -> Tally
     requires serves { ServesAny queue.now pass.old }
     ensures serves { ServesAny queue.now pass.new }
 {
@@ -143,7 +156,7 @@ fn drain(queue: &AnyQueue<Empty>, pass: &mut AnyPass) -> Tally
 fn four_threads_lose_and_double_nothing(rt: HostRuntime) -> Result<(), Fail> {
     let alloc = rt.alloc();
     let def = standard(alloc)?;
-    let (queue, mut boss) = AnyQueue::make(alloc, &def, ALL, Vec::new(alloc))?;
+    let (queue, mut boss) = AnyQueue::make(rt, alloc, &def, ALL, Vec::new(alloc))?;
     let one = putter(&queue, &mut boss);
     let two = putter(&queue, &mut boss);
     let three = putter(&queue, &mut boss);
@@ -169,9 +182,9 @@ fn four_threads_lose_and_double_nothing(rt: HostRuntime) -> Result<(), Fail> {
 }
 
 /// Takes all that is available out, the oldest first, and lists the ids.
-fn ids_out(
+fn ids_out<W: Wait + Send + Sync + Drop>(
     alloc: Global,
-    queue: &AnyQueue<Empty>,
+    queue: &AnyQueue<Empty, W>,
     pass: &mut AnyPass,
 ) -> Result<Vec<u64>, AllocError>
     requires serves { ServesAny queue.now pass.old }
@@ -205,7 +218,7 @@ fn has_in_order(ids: &[u64], first: u64) -> bool {
 fn two_threads_put_into_one_list(rt: HostRuntime) -> Result<(), Fail> {
     let alloc = rt.alloc();
     let def = standard(alloc)?;
-    let (queue, mut boss) = AnyQueue::make(alloc, &def, ALL, Vec::new(alloc))?;
+    let (queue, mut boss) = AnyQueue::make(rt, alloc, &def, ALL, Vec::new(alloc))?;
     let one = putter(&queue, &mut boss);
     let two = putter(&queue, &mut boss);
     let (one, two) = both_put(&rt, &queue, one, two, 0);
@@ -222,7 +235,7 @@ fn two_threads_put_into_one_list(rt: HostRuntime) -> Result<(), Fail> {
 fn four_threads_put_into_one_list(rt: HostRuntime) -> Result<(), Fail> {
     let alloc = rt.alloc();
     let def = standard(alloc)?;
-    let (queue, mut boss) = AnyQueue::make(alloc, &def, ALL, Vec::new(alloc))?;
+    let (queue, mut boss) = AnyQueue::make(rt, alloc, &def, ALL, Vec::new(alloc))?;
     let one = putter(&queue, &mut boss);
     let two = putter(&queue, &mut boss);
     let three = putter(&queue, &mut boss);
@@ -249,7 +262,7 @@ fn four_threads_put_into_one_list(rt: HostRuntime) -> Result<(), Fail> {
 fn a_third_put_to_two_rows_is_spent(rt: HostRuntime) -> Result<(), Fail> {
     let alloc = rt.alloc();
     let def = standard(alloc)?;
-    let (queue, mut boss) = AnyQueue::make(alloc, &def, 2, Vec::new(alloc))?;
+    let (queue, mut boss) = AnyQueue::make(rt, alloc, &def, 2, Vec::new(alloc))?;
     let first = put_one(&queue, &mut boss, 5);
     assert!(rt; matches!(first, Placed::At { row: 0, .. }));
     let second = put_one(&queue, &mut boss, 6);
