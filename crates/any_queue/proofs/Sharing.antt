@@ -22,7 +22,7 @@ use Rattle.acts_core.proofs.Passes.{pass_gains, pass_hands}
 use Rattle.acts_core.proofs.Running.{lists_stay}
 use Rattle.entry_table.specs.Plays.{not_in}
 use Rattle.entry_table.specs.Rule.{below}
-use Rattle.any_queue.specs.Parting.{IsFresh, IsLast, IsSplit, MayPart}
+use Rattle.any_queue.specs.Parting.{IsFresh, IsLast, IsSplit, MayPart, StartsApart}
 use Rattle.any_queue.proofs.Parting.{has_mem, mem_has}
 
 -- an entry that two consumers want fits a queue of one list and two consumers
@@ -35,6 +35,25 @@ fits_two s slip one two size mask list =
       list = let lists = stay.0 in omega (arith, lists, one, list);
       mask = subst (λ (n : ℕ). slip.mask < 2 ^ n) (sym (stay.1 ∙ two)) (omega (arith, mask));
     }
+
+-- an entry that one consumer wants fits a queue of one list and that consumer
+pub fits_one : (s : Sight) (slip : Slip) → s.opening.lists ≡ 1 → s.opening.consumers ≡ 1 → slip.size ≡ 0 → slip.mask ≡ 1 → slip.list ≡ 0
+    → FitsQueue (known s).lists (known s).consumers slip
+fits_one s slip one also size mask list =
+    let stay = lists_stay s.opening s.seen in
+    record {
+      size = omega (arith, size);
+      list = let lists = stay.0 in omega (arith, lists, one, list);
+      mask = subst (λ (n : ℕ). slip.mask < 2 ^ n) (sym (stay.1 ∙ also)) (omega (arith, mask));
+    }
+
+-- any queue may start with nothing
+pub none_apart : {C : Type 0} (kind : Kind) (start : List (Slip × C)) → start ≡ [] → StartsApart kind start
+none_apart {C} kind start none = subst (StartsApart kind) (sym none) (by_kind kind) where
+  by_kind : (k : Kind) → StartsApart {C = C} k []
+  by_kind Listed = tt
+  by_kind Sorted = tt
+  by_kind LastValue = λ i j less low. absurd (omega (arith, low))
 
 -- each kind of queue takes an entry without a key
 pub none_fits : (kind : Kind) (key : Option (List ℕ)) → key ≡ None → KeyFits kind key

@@ -25,8 +25,8 @@ built kind rows = record { kind = kind; bells = rings kind; rows = rows }
 -- how the queue is built
 abbrev pub build_in : {C R : Type 0} → AnyQueue C R → Build
 build_in (queues.Listed e) = build_of e
-build_in (queues.Sorted h) = held.build_by Sorted h
-build_in (queues.LastValue h) = held.build_by LastValue h
+build_in (queues.Sorted h) = held.build_by Sorted h.value
+build_in (queues.LastValue h) = held.build_by LastValue h.value
 
 -- what the pass shows
 abbrev pub sight_in : AnyPass → Sight
@@ -41,8 +41,8 @@ pub record ServesListed {C : Type 0} (e : Entries C) (p : ListedPass) : Type 0 w
 -- the pass is one of this queue
 abbrev pub ServesAny : {C R : Type 0} → AnyQueue C R → AnyPass → Type 0
 ServesAny (queues.Listed e) (passes.Listed p) = ServesListed e p
-ServesAny (queues.Sorted h) (passes.Held p) = held.Serves h p
-ServesAny (queues.LastValue h) (passes.Held p) = held.Serves h p
+ServesAny (queues.Sorted h) (passes.Held p) = held.Serves h.value p
+ServesAny (queues.LastValue h) (passes.Held p) = held.Serves h.value p
 ServesAny queue pass = ⊥
 
 -- what holds of each pass of the queue
@@ -50,6 +50,6 @@ pub any_opens : {C R : Type 0} (queue : AnyQueue C R) (pass : AnyPass) → Serve
 any_opens (queues.Listed e) (passes.Listed p) s = is_sight e p.pass s.table
 any_opens (queues.Listed e) (passes.Held p) s = absurd s
 any_opens (queues.Sorted h) (passes.Listed p) s = absurd s
-any_opens (queues.Sorted h) (passes.Held p) s = held.held_opens Sorted h p s
+any_opens (queues.Sorted h) (passes.Held p) s = held.held_opens Sorted h.value p s
 any_opens (queues.LastValue h) (passes.Listed p) s = absurd s
-any_opens (queues.LastValue h) (passes.Held p) s = held.held_opens LastValue h p s
+any_opens (queues.LastValue h) (passes.Held p) s = held.held_opens LastValue h.value p s

@@ -17,6 +17,16 @@ use sorted_core::Sorted;
 use std::alloc::Global;
 use std::sync::Wait;
 
+// The value, on the heap.
+fn boxed<T: Drop>(alloc: Global, value: T) -> Result<Box<T>, NoMemory>
+    ensures { IfOk result (λ b. b.value ≡ value) }
+{
+    match Box::new(alloc, value) {
+        Ok(boxed) => Ok(boxed),
+        Err(_) => Err(NoMemory),
+    }
+}
+
 /// A sorted queue of so many rows and consumers that starts with these entries, and the pass of its boss.
 pub(crate) fn make_sorted<C: Cargo, R: Wait + Drop>(
     rt: R,
@@ -24,19 +34,22 @@ pub(crate) fn make_sorted<C: Cargo, R: Wait + Drop>(
     rows: u64,
     consumers: u32,
     start: Vec<(Slip, C)>,
-) -> Result<(Held<C, Sorted<C>, R>, HeldPass), NoMemory>
+) -> Result<(Box<Held<C, Sorted<C>, R>>, HeldPass), NoMemory>
     requires rows { rows ≤ 524288 }
     requires consumers { consumers ≤ 64 }
     requires room { vec_len start ≤ rows }
     requires start { AllMayStart C.load kinds.Sorted 1 consumers start.items }
-    ensures serves { IfOk result (λ r. Serves r.0 r.1) }
+    ensures serves { IfOk result (λ r. Serves r.0.value r.1) }
     ensures fresh { IfOk result (λ r. IsFresh C.load kinds.Sorted 1 rows consumers start.items
-        (build_by kinds.Sorted r.0) (sight r.1)) }
+        (build_by kinds.Sorted r.0.value) (sight r.1)) }
 {
     let spare = rows - start.len() as u64;
     let mut core = Sorted::make(alloc, start)?;
     match core.grow(spare) {
-        Ok(()) => Held::make(rt, alloc, core, consumers),
+        Ok(()) => {
+            let (held, boss) = Held::make(rt, alloc, core, consumers)?;
+            Ok((boxed(alloc, held)?, boss))
+        }
         Err(_) => Err(NoMemory),
     }
 }
@@ -48,20 +61,23 @@ pub(crate) fn make_last_value<C: Cargo, R: Wait + Drop>(
     rows: u64,
     consumers: u32,
     start: Vec<(Slip, C)>,
-) -> Result<(Held<C, LastValue<C>, R>, HeldPass), NoMemory>
+) -> Result<(Box<Held<C, LastValue<C>, R>>, HeldPass), NoMemory>
     requires rows { rows ≤ 524288 }
     requires consumers { consumers ≤ 64 }
     requires room { vec_len start ≤ rows }
     requires start { AllMayStart C.load kinds.LastValue 1 consumers start.items }
     requires apart { KeysApart start.items }
-    ensures serves { IfOk result (λ r. Serves r.0 r.1) }
+    ensures serves { IfOk result (λ r. Serves r.0.value r.1) }
     ensures fresh { IfOk result (λ r. IsFresh C.load kinds.LastValue 1 rows consumers start.items
-        (build_by kinds.LastValue r.0) (sight r.1)) }
+        (build_by kinds.LastValue r.0.value) (sight r.1)) }
 {
     let spare = rows - start.len() as u64;
     let mut core = LastValue::make(alloc, start)?;
     match core.grow(spare) {
-        Ok(()) => Held::make(rt, alloc, core, consumers),
+        Ok(()) => {
+            let (held, boss) = Held::make(rt, alloc, core, consumers)?;
+            Ok((boxed(alloc, held)?, boss))
+        }
         Err(_) => Err(NoMemory),
     }
 }

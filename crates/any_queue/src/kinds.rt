@@ -15,9 +15,9 @@ pub enum AnyQueue<C: Cargo, R: Wait + Drop> {
     /// A standard or a priority queue.
     Listed(Entries<C>),
     /// A sorted queue.
-    Sorted(Held<C, Sorted<C>, R>),
+    Sorted(Box<Held<C, Sorted<C>, R>>),
     /// A last-value queue.
-    LastValue(Held<C, LastValue<C>, R>),
+    LastValue(Box<Held<C, LastValue<C>, R>>),
 }
 
 /// A pass of a standard or a priority queue.

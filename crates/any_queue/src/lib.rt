@@ -12,6 +12,8 @@ pub use kinds::{AnyPass, AnyQueue, ListedPass};
 #[cfg(test)]
 mod cursor_tests;
 #[cfg(test)]
+mod kinds_tests;
+#[cfg(test)]
 mod shared_tests;
 #[cfg(test)]
 mod stress_tests;

@@ -141,11 +141,11 @@ impl<C: Cargo, R: Wait + Drop> AnyQueue<C, R> {
                 AnyPass::Held(_) => unreachable!(),
             },
             AnyQueue::Sorted(held) => match boss {
-                AnyPass::Held(boss) => close_held(held, boss),
+                AnyPass::Held(boss) => close_held(Box::into_inner(held), boss),
                 AnyPass::Listed(_) => unreachable!(),
             },
             AnyQueue::LastValue(held) => match boss {
-                AnyPass::Held(boss) => close_held(held, boss),
+                AnyPass::Held(boss) => close_held(Box::into_inner(held), boss),
                 AnyPass::Listed(_) => unreachable!(),
             },
         }

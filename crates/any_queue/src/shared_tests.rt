@@ -36,11 +36,18 @@ pub(crate) struct Taken {
 pub(crate) fn standard(alloc: Global) -> Result<QueueDef, AllocError>
     ensures { IfOk result (λ d. (d.kind ≡ kinds.Standard) × (vec_len d.consumers ≡ 2)) }
 {
+    of_kind(alloc, QueueKind::Standard)
+}
+
+/// A queue of this kind, of two consumers.
+pub(crate) fn of_kind(alloc: Global, kind: QueueKind) -> Result<QueueDef, AllocError>
+    ensures { IfOk result (λ d. (d.kind ≡ kind) × (vec_len d.consumers ≡ 2)) }
+{
     let first = consumer(alloc, 0);
     let second = consumer(alloc, 1);
     let name = Bytes::from_vec(Vec::new(alloc));
     let consumers = vec![in alloc; first, second]?;
-    Ok(QueueDef::bare(name, QueueKind::Standard, consumers))
+    Ok(QueueDef::bare(name, kind, consumers))
 }
 
 fn consumer(alloc: Global, number: u32) -> ConsumerDef {

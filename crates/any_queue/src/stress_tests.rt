@@ -1,14 +1,18 @@
 //! Four threads on one queue, and what they leave.
-ghost use Rattle.std.specs.Prelude.{◌≡◌, ◌≤◌};
+ghost use Rattle.std.specs.Prelude.{◌≡◌, ◌≤◌, vec_len};
+ghost use Rattle.defs_read.specs.Allowed.{HasPriorities};
+ghost use Rattle.defs_read.specs.Slips.{lists_of};
 ghost use Rattle.any_queue.specs.Kinds.{sight_in, ServesAny};
 
 use crate::shared_tests::{
-    PUTS, both_put, hold_and_leave, lock_again, oldest_out, put_all, put_one, putter, standard,
-    steal_out,
+    PUTS, both_put, hold_and_leave, lock_again, of_kind, oldest_out, put_all, put_one, putter,
+    standard, steal_out,
 };
 use crate::tests::Empty;
 use crate::{AnyPass, AnyQueue};
 use acts_core::{Placed, SharedQueue};
+use byte_lists::{Bytes, NoMemory};
+use defs_read::{QueueDef, QueueKind};
 use std::alloc::{AllocError, Global};
 use std::sync::Wait;
 use std::test::Fail;
@@ -151,21 +155,38 @@ fn drain<W: Wait + Send + Sync + Drop>(queue: &AnyQueue<Empty, W>, pass: &mut An
     tally
 }
 
-/// Each entry is taken out once, by a thread or of what is left; and the depth is that of what is left.
-#[test]
-fn four_threads_lose_and_double_nothing(rt: HostRuntime) -> Result<(), Fail> {
-    let alloc = rt.alloc();
-    let def = standard(alloc)?;
-    let (queue, mut boss) = AnyQueue::make(rt, alloc, &def, ALL, Vec::new(alloc))?;
+/// What came of four threads: how full the queue was told to be, what was left then, what came out in all, and how full
+/// it was told to be in the end.
+#[derive(Drop)]
+struct Outcome {
+    depth: u64,
+    left: u64,
+    all: Tally,
+    end: u64,
+}
+
+/// Four threads work on a queue of one list.
+fn four_work<R: Threads + Wait + Clone + Send + Sync + Drop>(
+    rt: &R,
+    alloc: Global,
+    def: &QueueDef,
+) -> Result<Outcome, NoMemory>
+    requires kind { HasPriorities def.now.kind × (lists_of def.now.kind ≡ 1) }
+    requires consumers { vec_len def.now.consumers ≡ 2 }
+{
+    let Ok(handle) = rt.clone() else {
+        return Err(NoMemory);
+    };
+    let (queue, mut boss) = AnyQueue::make(handle, alloc, def, ALL, Vec::new(alloc))?;
     let one = putter(&queue, &mut boss);
     let two = putter(&queue, &mut boss);
     let three = putter(&queue, &mut boss);
     let four = putter(&queue, &mut boss);
     let shared = &queue;
     let ((one, two), (three, four)) = join(
-        &rt,
-        || both_work(&rt, shared, one, two, 0),
-        || both_work(&rt, shared, three, four, 32),
+        rt,
+        || both_work(rt, shared, one, two, 0),
+        || both_work(rt, shared, three, four, 32),
     );
     let worked = sum(sum(one.tally, two.tally), sum(three.tally, four.tally));
     queue.join(&mut boss, one.pass);
@@ -174,10 +195,48 @@ fn four_threads_lose_and_double_nothing(rt: HostRuntime) -> Result<(), Fail> {
     queue.join(&mut boss, four.pass);
     let depth = queue.depth(&mut boss).entries;
     let left = drain(&queue, &mut boss);
-    assert_eq!(rt; depth, left.count);
-    assert_eq!(rt; sum(worked, left).count, 64);
-    assert_eq!(rt; sum(worked, left).bits, u64::MAX);
-    assert_eq!(rt; queue.depth(&mut boss).entries, 0);
+    Ok(Outcome {
+        depth,
+        left: left.count,
+        all: sum(worked, left),
+        end: queue.depth(&mut boss).entries,
+    })
+}
+
+/// Whether each entry was taken out once, by a thread or of what was left, and the depth was that of what was left.
+fn is_whole(outcome: &Outcome) -> bool {
+    outcome.depth == outcome.left
+        && outcome.all.count == ALL
+        && outcome.all.bits == u64::MAX
+        && outcome.end == 0
+}
+
+/// On a standard queue.
+#[test]
+fn four_threads_lose_and_double_nothing(rt: HostRuntime) -> Result<(), Fail> {
+    let alloc = rt.alloc();
+    let outcome = four_work(&rt, alloc, &standard(alloc)?)?;
+    assert!(rt; is_whole(&outcome));
+    Ok(())
+}
+
+/// On a sorted queue, each behind its lock.
+#[test]
+fn four_threads_share_a_sorted_queue(rt: HostRuntime) -> Result<(), Fail> {
+    let alloc = rt.alloc();
+    let name = Bytes::from_vec(Vec::new(alloc));
+    let outcome = four_work(&rt, alloc, &of_kind(alloc, QueueKind::Sorted(name))?)?;
+    assert!(rt; is_whole(&outcome));
+    Ok(())
+}
+
+/// On a last-value queue whose entries have no key.
+#[test]
+fn four_threads_share_a_last_value_queue(rt: HostRuntime) -> Result<(), Fail> {
+    let alloc = rt.alloc();
+    let name = Bytes::from_vec(Vec::new(alloc));
+    let outcome = four_work(&rt, alloc, &of_kind(alloc, QueueKind::LastValue(name))?)?;
+    assert!(rt; is_whole(&outcome));
     Ok(())
 }
 
