@@ -15,6 +15,8 @@ use Rattle.acts_core.specs.Sight.{Listed, Build, Sight}
 use Rattle.txn_core.specs.declared.parcels.Parcel.{Parcel}
 use Rattle.defs_read.specs.Defined.{Defined}
 use Rattle.defs_read.specs.Slips.{lists_of}
+use Rattle.defs_read.specs.declared.defs.QueueKind.{QueueKind}
+use Rattle.defs_read.specs.declared.defs.QueueKind.TheVariants.{Standard, Priority, Sorted, LastValue}
 use Rattle.script_read.specs.Allowed.{ops_in}
 use Rattle.script_read.specs.Phases.{Actors}
 use Rattle.script_read.specs.declared.lines.Op.{Op}
@@ -23,6 +25,7 @@ use Rattle.entry_table.specs.Rule.{below}
 use Rattle.any_queue.specs.declared.kinds.AnyPass.{AnyPass}
 use Rattle.any_queue.specs.declared.kinds.AnyQueue.{AnyQueue}
 use Rattle.any_queue.specs.Kinds.{build_in, sight_in}
+use Rattle.any_queue.specs.Parting.{IsOfLists, kind_of}
 use Rattle.workers_core.specs.Made.{puts_in}
 use Rattle.account_core.specs.Phases.{AllOpen}
 use Rattle.phase_queues.specs.Opened.{AreOpened, HasRoom, all_played, played}
@@ -55,13 +58,28 @@ mem_below (suc n) k less = ⊎_elim
     (λ other. mem-append_left (n ∷ []) (mem_below n k (omega (arith, less, other))))
     (cases_eq k n)
 
-module _ (defs : List Defined) (lefts : Lefts) (puts : List ℕ) (queues : List (AnyQueue Parcel)) (bosses : List AnyPass) (opened : AreOpened defs lefts puts queues bosses) where
-  listed : (queues' : List (AnyQueue Parcel)) → ((q : ℕ) (queue : AnyQueue Parcel) → slice_get queues' q ≡ Some queue → (build_in queue).kind ≡ Listed) → AllByRecursion (λ q. (build_in q).kind ≡ Listed) queues'
+-- a queue of lists is one of the listed kind
+of_lists : (k : QueueKind) → IsOfLists k → kind_of k ≡ Listed
+of_lists Standard is = refl
+of_lists (Priority n) is = refl
+of_lists (Sorted key) is = absurd is
+of_lists (LastValue key) is = absurd is
+
+all_at : {X : Type 0} (P : X → Type 0) (xs : List X) (q : ℕ) (x : X) → AllByRecursion P xs → slice_get xs q ≡ Some x → P x
+all_at P [] q x all at = absurd (cc)
+all_at P (y ∷ xs) zero x all at = subst P (same_Some y x at) all.0
+all_at P (y ∷ xs) (suc q) x all at = all_at P xs q x all.1 at
+
+module _ {R : Type 0} (defs : List Defined) (lefts : Lefts) (puts : List ℕ) (queues : List (AnyQueue Parcel R)) (bosses : List AnyPass) (opened : AreOpened defs lefts puts queues bosses) where
+  listed : (queues' : List (AnyQueue Parcel R)) → ((q : ℕ) (queue : AnyQueue Parcel R) → slice_get queues' q ≡ Some queue → (build_in queue).kind ≡ Listed) → AllByRecursion (λ q. (build_in q).kind ≡ Listed) queues'
   listed [] each = tt
   listed (queue ∷ queues') each = (each zero queue refl, listed queues' (λ q. each (suc q)))
 
-  pub all_listed : AllByRecursion (λ q. (build_in q).kind ≡ Listed) queues
-  all_listed = listed queues (λ q queue at. ap (λ (b : Build). b.kind) (opened.builds q queue at))
+  pub all_listed : AllByRecursion (λ (d : Defined). IsOfLists d.kind) defs → AllByRecursion (λ q. (build_in q).kind ≡ Listed) queues
+  all_listed lists = listed queues (λ q queue at.
+      let within = slice_get_within queues q queue at in
+      let def = there defs q (omega (arith, within, opened.as_many)) in
+      ap (λ (b : Build). b.kind) (opened.builds q def.0 queue def.1 at) ∙ of_lists def.0.kind (all_at (λ (d : Defined). IsOfLists d.kind) defs q def.0 lists def.1))
 
   module _ (rows : List (List Row)) (actors : Actors) (opens : AllOpen defs rows (all_played queues bosses)) (counted : Counted (length defs) (ops_in actors) puts) where
     may_one : (q : ℕ) (def : Defined) (boss : AnyPass) → slice_get defs q ≡ Some def → slice_get bosses q ≡ Some boss → MayCast def q actors 1 (sight_in boss)
