@@ -14,6 +14,8 @@ use Rattle.acts_core.specs.Sight.{Build, Sight}
 use Rattle.txn_core.specs.declared.parcels.Parcel.{Parcel}
 use Rattle.defs_read.specs.Defined.{Defined}
 use Rattle.defs_read.specs.Slips.{lists_of}
+use Rattle.defs_read.specs.declared.defs.QueueKind.{QueueKind}
+use Rattle.defs_read.specs.declared.defs.QueueKind.TheVariants.{Standard, Priority, Sorted, LastValue}
 use Rattle.script_read.specs.Allowed.{ops_in}
 use Rattle.script_read.specs.Phases.{Actors}
 use Rattle.script_read.specs.declared.lines.Op.{Op}
@@ -22,7 +24,9 @@ use Rattle.entry_table.specs.Rule.{below}
 use Rattle.any_queue.specs.declared.kinds.AnyPass.{AnyPass}
 use Rattle.any_queue.specs.declared.kinds.AnyQueue.{AnyQueue}
 use Rattle.any_queue.specs.Kinds.{build_in, sight_in}
-use Rattle.line_core.specs.Places.{AreOfKinds, kind_of}
+use Rattle.line_core.specs.Places.{AreOfKinds}
+use Rattle.line_core.specs.Places as lines
+use Rattle.any_queue.specs.Parting.{IsOfLists, kind_of}
 use Rattle.workers_core.specs.Made.{puts_in}
 use Rattle.account_core.specs.Phases.{AllOpen}
 use Rattle.phase_queues.specs.Opened.{AreOpened, HasRoom, all_played, played}

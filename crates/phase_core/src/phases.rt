@@ -52,9 +52,9 @@ pub struct PhaseEnd {
 fn play_actors<R: Threads + Wait + Clone + Send + Sync + Drop, G: Gate>(
     rt: &R,
     defs: &Defs,
-    queues: &[AnyQueue<Parcel>],
+    queues: &[AnyQueue<Parcel, R>],
     bosses: &mut Vec<AnyPass>,
-    actors: Vec<Actor<AnyQueue<Parcel>>>,
+    actors: Vec<Actor<AnyQueue<Parcel, R>>>,
     roster: &mut Roster,
     logs: &mut Vec<Log>,
     gate: &G,
@@ -125,7 +125,7 @@ pub fn play_phase<R: Threads + Wait + Clone + Send + Sync + Drop, G: Gate>(
         return Err(NoMemory);
     };
     let rows = rows_of(left.as_slice(), puts.as_slice());
-    let opened = open_queues(alloc, defs, left, &puts)?;
+    let opened = open_queues(rt, alloc, defs, left, &puts)?;
     let Opened {
         queues,
         bosses,

@@ -18,7 +18,6 @@ use Rattle.defs_read.specs.Defined.{Defined}
 use Rattle.report_core.specs.declared.answers.Resting.{Resting}
 use Rattle.any_queue.specs.declared.kinds.AnyPass.{AnyPass}
 use Rattle.any_queue.specs.declared.kinds.AnyQueue.{AnyQueue}
-use Rattle.any_queue.specs.declared.kinds.AnyQueue.TheVariants as queues
 use Rattle.any_queue.specs.Kinds.{build_in, sight_in, ServesAny, any_opens}
 use Rattle.any_queue.specs.Parting.{IsLast}
 use Rattle.phase_text.specs.declared.logs.Rest.{Rest}
@@ -27,31 +26,28 @@ use Rattle.account_core.specs.Counting.{with_ids}
 use Rattle.account_core.specs.Phases.{AllOpen}
 use Rattle.account_core.specs.Played.{Played, rest_of}
 use Rattle.account_core.specs.Texts.{RestsTell, queue_names, resting}
-use Rattle.phase_queues.specs.Left.{Remains, AllMayStay, MayStay, ids_left, items_of, many_left, resting_left, row_left, rows_left}
+use Rattle.phase_queues.specs.Left.{Remains, AllMayStay, MayGoOn, ids_left, items_of, many_left, resting_left, row_left, rows_left}
 use Rattle.phase_queues.specs.Opened.{AllServed, RestsHold, TellNothing, all_played, played, rest_names}
 use Rattle.phase_queues.specs.Closed.{AllLeave, AreLast, AreOfRows, Leaves, NoOthers, RestsFit, TellsMore, ToldBelow}
 use Rattle.phase_queues.proofs.Leaving.{few_ids, few_left, may_stay, rows_left-is, told-is}
 use Rattle.phase_queues.proofs.Places.{get_low, get_mid, get_set, set_past}
+use Rattle.phase_queues.proofs.Starting.{all_get}
 
 -- One queue
-
--- all kinds of queue so far are listed
-listed : (queue : AnyQueue Parcel) → (build_in queue).kind ≡ Listed
-listed (queues.Listed e) = refl
 
 -- the pass knows a sound state
 abbrev pub Knows : AnyPass → Type 0
 Knows boss = Sound (known (sight_in boss))
 
-knows : (queue : AnyQueue Parcel) (boss : AnyPass) → IsSightOf (build_in queue) (sight_in boss) → Legal (sight_in boss).opening (sight_in boss).seen → Knows boss
+knows : {R : Type 0} (queue : AnyQueue Parcel R) (boss : AnyPass) → IsSightOf (build_in queue) (sight_in boss) → Legal (sight_in boss).opening (sight_in boss).seen → Knows boss
 knows queue boss s legal = sound_after (sight_in boss).opening (sight_in boss).seen (sound_opening (sight_in boss).opening s.opening) legal
 
-module _ (queue : AnyQueue Parcel) (boss : AnyPass) (es : List (RestEntry Parcel)) (l : Leaves queue boss es) (sound : Knows boss) where
+module _ {R : Type 0} (queue : AnyQueue Parcel R) (boss : AnyPass) (es : List (RestEntry Parcel)) (l : Leaves queue boss es) (sound : Knows boss) where
   rests : AreRests Listed (known (sight_in boss)) (map (left_of load_of) es)
-  rests = subst (λ (k : Kind). AreRests k (known (sight_in boss)) (map (left_of load_of) es)) (listed queue) l.closed.rests
+  rests = subst (λ (k : Kind). AreRests k (known (sight_in boss)) (map (left_of load_of) es)) l.listed l.closed.rests
 
   keys : AllByRecursion (λ (e : RestEntry Parcel). KeyFits Listed e.slip.key) es
-  keys = subst (λ (k : Kind). AllByRecursion (λ (e : RestEntry Parcel). KeyFits k e.slip.key) es) (listed queue) l.keys
+  keys = subst (λ (k : Kind). AllByRecursion (λ (e : RestEntry Parcel). KeyFits k e.slip.key) es) l.listed l.keys
 
   left_rows : map row_left es ≡ handed_on (played queue boss)
   left_rows = rows_left-is (known (sight_in boss)) sound es rests
@@ -65,14 +61,14 @@ module _ (queue : AnyQueue Parcel) (boss : AnyPass) (es : List (RestEntry Parcel
   left_ids : (test : ℕ → Bool) → count_by (λ e. test e.slip.id) es ≤ with_ids test (known (sight_in boss)).rows
   left_ids = few_ids (known (sight_in boss)) sound es rests
 
-  left_stay : (def : Defined) (rows : List Row) → Opens def rows (played queue boss).plan → AllByRecursion (MayStay def) es
+  left_stay : (def : Defined) (rows : List Row) → Opens def rows (played queue boss).plan → MayGoOn def es
   left_stay def rows o =
       let same = lists_stay (sight_in boss).opening (sight_in boss).seen in
-      may_stay (known (sight_in boss)) sound es rests def (same.0 ∙ o.lists) (same.1 ∙ o.consumers) keys
+      may_stay (known (sight_in boss)) sound es rests def (sym o.kind ∙ l.listed) (same.0 ∙ o.lists) (same.1 ∙ o.consumers) keys
 
 -- All queues
 
-pub all_sound : (queues : List (AnyQueue Parcel)) (bosses : List AnyPass) → length bosses ≡ length queues → AllServed queues bosses → AreLast bosses → AllByRecursion Knows bosses
+pub all_sound : {R : Type 0} (queues : List (AnyQueue Parcel R)) (bosses : List AnyPass) → length bosses ≡ length queues → AllServed queues bosses → AreLast bosses → AllByRecursion Knows bosses
 all_sound queues [] same serves last = tt
 all_sound [] (boss ∷ bosses) same serves last = absurd (omega (arith, same))
 all_sound (queue ∷ queues) (boss ∷ bosses) same serves last = (
@@ -80,7 +76,7 @@ all_sound (queue ∷ queues) (boss ∷ bosses) same serves last = (
   all_sound queues bosses (omega (arith, same)) (λ q. serves (suc q)) (record { last = λ q. last.last (suc q); legal = λ q. last.legal (suc q) }),
 )
 
-pub all_rows : (queues : List (AnyQueue Parcel)) (bosses : List AnyPass) (lefts : List Remains) → AllLeave queues bosses lefts → AllByRecursion Knows bosses → rows_left lefts ≡ map handed_on (all_played queues bosses)
+pub all_rows : {R : Type 0} (queues : List (AnyQueue Parcel R)) (bosses : List AnyPass) (lefts : List Remains) → AllLeave queues bosses lefts → AllByRecursion Knows bosses → rows_left lefts ≡ map handed_on (all_played queues bosses)
 all_rows [] [] [] l sound = refl
 all_rows [] [] (es ∷ lefts) l sound = absurd l
 all_rows [] (boss ∷ bosses) lefts l sound = absurd l
@@ -91,7 +87,7 @@ all_rows (queue ∷ queues) (boss ∷ bosses) (es ∷ lefts) l sound =
     let rest = all_rows queues bosses lefts l.1 sound.1 in
     λ i. first i ∷ rest i
 
-pub all_stay : (queues : List (AnyQueue Parcel)) (bosses : List AnyPass) (lefts : List Remains) (defs : List Defined) (rows : List (List Row)) → AllLeave queues bosses lefts → AllByRecursion Knows bosses → AllOpen defs rows (all_played queues bosses) → AllMayStay defs lefts
+pub all_stay : {R : Type 0} (queues : List (AnyQueue Parcel R)) (bosses : List AnyPass) (lefts : List Remains) (defs : List Defined) (rows : List (List Row)) → AllLeave queues bosses lefts → AllByRecursion Knows bosses → AllOpen defs rows (all_played queues bosses) → AllMayStay defs lefts
 all_stay [] [] [] [] rows l sound o = tt
 all_stay [] [] [] (def ∷ defs) [] l sound o = absurd o
 all_stay [] [] [] (def ∷ defs) (r ∷ rows) l sound o = absurd o
@@ -108,8 +104,8 @@ all_stay (queue ∷ queues) (boss ∷ bosses) (es ∷ lefts) (def ∷ defs) (r �
 -- Queue q of all
 
 -- a queue, its boss and its entries, where one of the three is found
-pub record Found (queues : List (AnyQueue Parcel)) (bosses : List AnyPass) (lefts : List Remains) (q : ℕ) : Type 0 where
-  pub queue : AnyQueue Parcel
+pub record Found {R : Type 0} (queues : List (AnyQueue Parcel R)) (bosses : List AnyPass) (lefts : List Remains) (q : ℕ) : Type 0 where
+  pub queue : AnyQueue Parcel R
   pub boss : AnyPass
   pub es : Remains
   pub queue_is : slice_get queues q ≡ Some queue
@@ -119,7 +115,7 @@ pub record Found (queues : List (AnyQueue Parcel)) (bosses : List AnyPass) (left
   pub sound : Knows boss
   pub played_is : slice_get (all_played queues bosses) q ≡ Some (played queue boss)
 
-pub found : (queues : List (AnyQueue Parcel)) (bosses : List AnyPass) (lefts : List Remains) (q : ℕ) → AllLeave queues bosses lefts → AllByRecursion Knows bosses → q < length queues → Found queues bosses lefts q
+pub found : {R : Type 0} (queues : List (AnyQueue Parcel R)) (bosses : List AnyPass) (lefts : List Remains) (q : ℕ) → AllLeave queues bosses lefts → AllByRecursion Knows bosses → q < length queues → Found queues bosses lefts q
 found [] bosses lefts q l sound low = absurd (omega (arith, low))
 found (queue ∷ queues) [] lefts q l sound low = absurd l
 found (queue ∷ queues) (boss ∷ bosses) [] q l sound low = absurd l
@@ -130,7 +126,7 @@ found (queue ∷ queues) (boss ∷ bosses) (es ∷ lefts) (suc q) l sound low =
     record { queue = f.queue; boss = f.boss; es = f.es; queue_is = f.queue_is; boss_is = f.boss_is; es_is = f.es_is; leaves = f.leaves; sound = f.sound; played_is = f.played_is }
 
 -- there are as many of each
-pub as_many : (queues : List (AnyQueue Parcel)) (bosses : List AnyPass) (lefts : List Remains) → AllLeave queues bosses lefts → (length bosses ≡ length queues) × (length lefts ≡ length queues) × (length (all_played queues bosses) ≡ length queues)
+pub as_many : {R : Type 0} (queues : List (AnyQueue Parcel R)) (bosses : List AnyPass) (lefts : List Remains) → AllLeave queues bosses lefts → (length bosses ≡ length queues) × (length lefts ≡ length queues) × (length (all_played queues bosses) ≡ length queues)
 as_many [] [] [] l = (refl, refl, refl)
 as_many [] [] (es ∷ lefts) l = absurd l
 as_many [] (boss ∷ bosses) lefts l = absurd l
@@ -141,7 +137,7 @@ as_many (queue ∷ queues) (boss ∷ bosses) (es ∷ lefts) l = let t = as_many 
 one : {X : Type 0} (a b : X) (o : Option X) → o ≡ Some a → o ≡ Some b → a ≡ b
 one a b o e f = let same : Some a ≡ Some b = sym e ∙ f in cc
 
-module _ (qs : List (AnyQueue Parcel)) (bosses : List AnyPass) (lefts : List Remains) (l : AllLeave qs bosses lefts) (sound : AllByRecursion Knows bosses) where
+module _ {R : Type 0} (qs : List (AnyQueue Parcel R)) (bosses : List AnyPass) (lefts : List Remains) (l : AllLeave qs bosses lefts) (sound : AllByRecursion Knows bosses) where
   at_played : (q : ℕ) (p : Played) → slice_get (all_played qs bosses) q ≡ Some p → Found qs bosses lefts q
   at_played q p e =
       let low = get_low (all_played qs bosses) q p e in
@@ -203,7 +199,7 @@ module _ (qs : List (AnyQueue Parcel)) (bosses : List AnyPass) (lefts : List Rem
 
 -- Told
 
-pub all_told : (queues : List (AnyQueue Parcel)) (bosses : List AnyPass) (lefts : List Remains) (olds news : List Rest) (defs : List Defined) → AllLeave queues bosses lefts → AllByRecursion Knows bosses
+pub all_told : {R : Type 0} (queues : List (AnyQueue Parcel R)) (bosses : List AnyPass) (lefts : List Remains) (olds news : List Rest) (defs : List Defined) → AllLeave queues bosses lefts → AllByRecursion Knows bosses
     → length olds ≡ length queues → length news ≡ length olds → rest_names olds ≡ queue_names defs → TellNothing olds → TellsMore olds lefts news → RestsTell news defs (all_played queues bosses)
 all_told [] [] [] [] [] [] l sound long same names none more = tt
 all_told [] [] [] [] [] (def ∷ defs) l sound long same names none more = absurd (cc)
@@ -228,29 +224,29 @@ all_told (queue ∷ queues) (boss ∷ bosses) (es ∷ lefts) (old ∷ olds) (new
 -- Closing from the last queue on
 
 -- The queues from some place on are closed, and have left this, the last one first.
-pub record Leaving (queues : List (AnyQueue Parcel)) (bosses : List AnyPass) (staying : List (AnyQueue Parcel)) (passes : List AnyPass) (lefts : List Remains) : Type 0 where
-  pub closed : List (AnyQueue Parcel)
+pub record Leaving {R : Type 0} (queues : List (AnyQueue Parcel R)) (bosses : List AnyPass) (staying : List (AnyQueue Parcel R)) (passes : List AnyPass) (lefts : List Remains) : Type 0 where
+  pub closed : List (AnyQueue Parcel R)
   pub gone : List AnyPass
   pub queues_are : queues ≡ staying ++ closed
   pub bosses_are : bosses ≡ passes ++ gone
   pub same : length passes ≡ length staying
   pub leave : AllLeave closed gone (reverse lefts)
 
-pub leaving_begins : (queues : List (AnyQueue Parcel)) (bosses : List AnyPass) (lefts : List Remains) → length bosses ≡ length queues → lefts ≡ [] → Leaving queues bosses queues bosses lefts
-leaving_begins queues bosses lefts same none = record {
+pub leaving_begins : {R : Type 0} (queues : List (AnyQueue Parcel R)) (bosses : List AnyPass) (lefts : List Remains) → length bosses ≡ length queues → lefts ≡ [] → Leaving queues bosses queues bosses lefts
+leaving_begins {R} queues bosses lefts same none = record {
   closed = [];
   gone = [];
   queues_are = sym (append-nil queues);
   bosses_are = sym (append-nil bosses);
   same = same;
-  leave = subst (λ (z : List Remains). AllLeave [] [] (reverse z)) (sym none) tt;
+  leave = subst (λ (z : List Remains). AllLeave {R = R} [] [] (reverse z)) (sym none) tt;
 }
 
-pub leaving_ends : (queues : List (AnyQueue Parcel)) (bosses : List AnyPass) (passes : List AnyPass) (lefts : List Remains) → Leaving queues bosses [] passes lefts → AllLeave queues bosses (reverse lefts)
-leaving_ends queues bosses [] lefts l = subst (λ (t : List (AnyQueue Parcel) × List AnyPass). AllLeave t.0 t.1 (reverse lefts)) (λ i. (sym l.queues_are i, sym l.bosses_are i)) l.leave
+pub leaving_ends : {R : Type 0} (queues : List (AnyQueue Parcel R)) (bosses : List AnyPass) (passes : List AnyPass) (lefts : List Remains) → Leaving queues bosses [] passes lefts → AllLeave queues bosses (reverse lefts)
+leaving_ends {R} queues bosses [] lefts l = subst (λ (t : List (AnyQueue Parcel R) × List AnyPass). AllLeave t.0 t.1 (reverse lefts)) (λ i. (sym l.queues_are i, sym l.bosses_are i)) l.leave
 leaving_ends queues bosses (b ∷ passes) lefts l = let same = l.same in absurd (omega (arith, same))
 
-module _ (queues : List (AnyQueue Parcel)) (bosses : List AnyPass) (staying : List (AnyQueue Parcel)) (passes : List AnyPass) (queue : AnyQueue Parcel) (boss : AnyPass) (lefts : List Remains) (l : Leaving queues bosses (staying ++ queue ∷ []) (passes ++ boss ∷ []) lefts) where
+module _ {R : Type 0} (queues : List (AnyQueue Parcel R)) (bosses : List AnyPass) (staying : List (AnyQueue Parcel R)) (passes : List AnyPass) (queue : AnyQueue Parcel R) (boss : AnyPass) (lefts : List Remains) (l : Leaving queues bosses (staying ++ queue ∷ []) (passes ++ boss ∷ []) lefts) where
   both : length passes ≡ length staying
   both =
       let same = l.same in
@@ -266,13 +262,16 @@ module _ (queues : List (AnyQueue Parcel)) (bosses : List AnyPass) (staying : Li
 
   -- the last queue that is open stands where the last boss stands
   queue_at : slice_get queues (length staying) ≡ Some queue
-  queue_at = ap (λ (z : List (AnyQueue Parcel)). slice_get z (length staying)) queues_split ∙ get_mid staying queue l.closed
+  queue_at = ap (λ (z : List (AnyQueue Parcel R)). slice_get z (length staying)) queues_split ∙ get_mid staying queue l.closed
 
   boss_at : slice_get bosses (length staying) ≡ Some boss
   boss_at = ap (λ (z : List AnyPass). slice_get z (length staying)) bosses_split ∙ ap (slice_get (passes ++ boss ∷ l.gone)) (sym both) ∙ get_mid passes boss l.gone
 
   pub serves_last : AllServed queues bosses → ServesAny queue boss
   serves_last serves = serves (length staying) queue boss queue_at boss_at
+
+  pub listed_last : AllByRecursion (λ (q : AnyQueue Parcel R). (build_in q).kind ≡ Listed) queues → (build_in queue).kind ≡ Listed
+  listed_last all = all_get (λ (q : AnyQueue Parcel R). (build_in q).kind ≡ Listed) queues (length staying) queue all queue_at
 
   pub is_last : AreLast bosses → IsLast (sight_in boss)
   is_last last = last.last (length staying) boss boss_at

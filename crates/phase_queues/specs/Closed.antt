@@ -4,6 +4,7 @@ use Rattle.std.specs.List.{AllByRecursion}
 use Rattle.queue_model.specs.History.{Legal, own}
 use Rattle.acts_core.specs.Asked.{KeyFits}
 use Rattle.acts_core.specs.Rest.{left_of}
+use Rattle.acts_core.specs.Sight.{Listed}
 use Rattle.acts_core.specs.declared.cargoes.RestEntry.{RestEntry}
 use Rattle.txn_core.specs.declared.parcels.Parcel.{Parcel}
 use Rattle.txn_core.specs.Parcels.{load_of}
@@ -34,13 +35,14 @@ pub record AreOfRows (queues : List Played) (lefts : List Remains) : Type 0 wher
   pub ids : (q : ℕ) (test : ℕ → Bool) (p : Played) → slice_get queues q ≡ Some p
       → ids_left q test lefts ≤ with_ids test (rest_of p).rows
 
--- these entries are what is left of the queue
-pub record Leaves (queue : AnyQueue Parcel) (boss : AnyPass) (entries : List (RestEntry Parcel)) : Type 0 where
+-- these entries are what is left of the queue, which is one of lists
+pub record Leaves {R : Type 0} (queue : AnyQueue Parcel R) (boss : AnyPass) (entries : List (RestEntry Parcel)) : Type 0 where
+  pub listed : (build_in queue).kind ≡ Listed
   pub closed : IsClosed (build_in queue).kind (sight_in boss) (map (left_of load_of) entries)
   pub keys : AllByRecursion (λ e. KeyFits (build_in queue).kind e.slip.key) entries
 
 -- and so of each queue
-abbrev pub AllLeave : List (AnyQueue Parcel) → List AnyPass → List Remains → Type 0
+abbrev pub AllLeave : {R : Type 0} → List (AnyQueue Parcel R) → List AnyPass → List Remains → Type 0
 AllLeave [] [] [] = Unit {0}
 AllLeave (queue ∷ queues) (boss ∷ bosses) (es ∷ lefts) = Leaves queue boss es.items × AllLeave queues bosses lefts
 AllLeave queues bosses lefts = ⊥

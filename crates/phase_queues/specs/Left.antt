@@ -11,7 +11,7 @@ use Rattle.txn_core.specs.declared.parcels.Parcel.{Parcel}
 use Rattle.txn_core.specs.Parcels.{load_of, shown}
 use Rattle.defs_read.specs.Defined.{Defined}
 use Rattle.defs_read.specs.Slips.{lists_of}
-use Rattle.entry_table.specs.Starting.{MayStart}
+use Rattle.any_queue.specs.Parting.{MayStart, StartsApart, kind_of}
 use Rattle.account_core.specs.Carry.{place_alone}
 use Rattle.account_core.specs.Texts.{holder_of}
 
@@ -35,14 +35,25 @@ row_left e = record {
 abbrev pub rows_left : List Remains → List (List Row)
 rows_left lefts = map (λ es. map row_left es.items) lefts
 
--- an entry that was left may stand in a queue of this definition: its slip fits and has no key, and the cargo agrees
+-- an entry that was left may stand in a queue of this definition: its slip fits, a queue of lists has no keys, and the
+-- cargo agrees
 abbrev pub MayStay : Defined → RestEntry Parcel → Type 0
-MayStay def e = MayStart load_of (lists_of def.kind) (length def.consumers) e.slip e.cargo
+MayStay def e = MayStart load_of (kind_of def.kind) (lists_of def.kind) (length def.consumers) e.slip e.cargo
+
+-- the entries with their slips alone
+abbrev pub goods_left : List (RestEntry Parcel) → List (Slip × Parcel)
+goods_left es = map (λ e. (e.slip, e.cargo)) es
+
+-- with these entries a queue of this definition may go on: each may stand there, and on a last-value queue no two have
+-- one key
+pub record MayGoOn (def : Defined) (es : List (RestEntry Parcel)) : Type 0 where
+  pub each : AllByRecursion (MayStay def) es
+  pub apart : StartsApart (kind_of def.kind) (goods_left es)
 
 -- and all that were left, list for list
 abbrev pub AllMayStay : List Defined → List Remains → Type 0
 AllMayStay [] [] = Unit {0}
-AllMayStay (def ∷ defs) (es ∷ lefts) = AllByRecursion (MayStay def) es.items × AllMayStay defs lefts
+AllMayStay (def ∷ defs) (es ∷ lefts) = MayGoOn def es.items × AllMayStay defs lefts
 AllMayStay defs lefts = ⊥
 
 -- the entries that were left of queue q; none where there is no such queue

@@ -1,6 +1,9 @@
 //! Queues that are closed.
 ghost use Rattle.std.specs.Prelude.{[], ◌≡◌, ◌++◌, ◌+◌, ◌≤◌, List, length, map, vec_capacity, vec_len};
+ghost use Rattle.std.specs.List.{AllByRecursion};
 ghost use Rattle.queue_model.specs.declared.rows.Row.{Row};
+ghost use Rattle.acts_core.specs.Sight.{Listed};
+ghost use Rattle.any_queue.specs.Kinds.{build_in};
 ghost use Rattle.defs_read.specs.Defined.{Defined};
 ghost use Rattle.account_core.specs.Carry.{handed_on};
 ghost use Rattle.account_core.specs.Phases.{AllOpen};
@@ -14,17 +17,19 @@ use any_queue::{AnyPass, AnyQueue};
 use phase_text::Rest;
 use queue_model::RowState;
 use report_core::Resting;
+use std::sync::Wait;
 use txn_core::Parcel;
 
 /// Closes the queues of a phase, into whose bosses the passes of all callers were joined: tells of each
 /// queue what it holds, and hands on the entries themselves, both in queue order. Takes no memory: the room is
 /// that of `open_queues`.
-pub fn close_queues(
-    queues: Vec<AnyQueue<Parcel>>,
+pub fn close_queues<R: Wait + Drop>(
+    queues: Vec<AnyQueue<Parcel, R>>,
     bosses: Vec<AnyPass>,
     rests: &mut Vec<Rest>,
     left: &mut Vec<Vec<RestEntry<Parcel>>>,
 )
+    requires kind { AllByRecursion (λ q. (build_in q).kind ≡ Listed) queues.items }
     requires bosses { vec_len bosses ≡ vec_len queues }
     requires serves { AllServed queues.items bosses.items }
     requires last { AreLast bosses.items }
@@ -47,11 +52,12 @@ pub fn close_queues(
 }
 
 // Closes the queues, from the last one on, and puts what they leave into their order.
-fn close_all(
-    queues: Vec<AnyQueue<Parcel>>,
+fn close_all<R: Wait + Drop>(
+    queues: Vec<AnyQueue<Parcel, R>>,
     bosses: Vec<AnyPass>,
     left: &mut Vec<Vec<RestEntry<Parcel>>>,
 )
+    requires kind { AllByRecursion (λ q. (build_in q).kind ≡ Listed) queues.items }
     requires bosses { vec_len bosses ≡ vec_len queues }
     requires serves { AllServed queues.items bosses.items }
     requires last { AreLast bosses.items }

@@ -40,9 +40,6 @@ returns-in_default-clause-kept g c = λ p. same_target _
 pub open_queues-requires-clause-allowed : goal.open_queues-requires-clause-allowed
 open_queues-requires-clause-allowed g c = c.requires.allowed
 
-pub open_queues-requires-clause-lists : goal.open_queues-requires-clause-lists
-open_queues-requires-clause-lists g c = c.requires.lists
-
 pub open_queues-requires-clause-stay : goal.open_queues-requires-clause-stay
 open_queues-requires-clause-stay g c = c.requires.stay
 
@@ -60,28 +57,28 @@ returns-in_err-opened-clause-kept g c = search (rules, on_err, same_seats)
 -- Actors
 
 pub make_actors-requires-clause-allowed : goal.make_actors-requires-clause-allowed
-make_actors-requires-clause-allowed g c = c.requires.allowed
+make_actors-requires-clause-allowed g c κs within = c.requires.allowed
 
 pub make_actors-requires-clause-lists : goal.make_actors-requires-clause-lists
-make_actors-requires-clause-lists g c = c.requires.lists
+make_actors-requires-clause-lists g c κs within = c.requires.lists
 
 pub make_actors-requires-clause-phase : goal.make_actors-requires-clause-phase
-make_actors-requires-clause-phase g c = c.requires.phase
+make_actors-requires-clause-phase g c κs within = c.requires.phase
 
 pub make_actors-requires-clause-served : goal.make_actors-requires-clause-served
-make_actors-requires-clause-served g c = c.requires.served
+make_actors-requires-clause-served g c κs within = c.requires.served
 
 pub make_actors-requires-clause-queues : goal.make_actors-requires-clause-queues
-make_actors-requires-clause-queues g c = ap length c.deref-2.ensures.value ∙ c.in_ok-opened.ensures.opened.as_many
+make_actors-requires-clause-queues g c κs within = ap length c.deref-2.ensures.value ∙ c.in_ok-opened.ensures.opened.as_many
 
 pub make_actors-requires-clause-bosses : goal.make_actors-requires-clause-bosses
-make_actors-requires-clause-bosses g c = omega (arith, c.in_ok-opened.ensures.opened.passes, c.in_ok-opened.opened.bosses.ok.0)
+make_actors-requires-clause-bosses g c κs within = omega (arith, c.in_ok-opened.ensures.opened.passes, c.in_ok-opened.opened.bosses.ok.0)
 
 pub make_actors-requires-clause-serve : goal.make_actors-requires-clause-serve
-make_actors-requires-clause-serve g c = rw c.deref-2.ensures.value c.in_ok-opened.ensures.opened.serves
+make_actors-requires-clause-serve g c κs within = rw c.deref-2.ensures.value c.in_ok-opened.ensures.opened.serves
 
 pub make_actors-requires-clause-may : goal.make_actors-requires-clause-may
-make_actors-requires-clause-may g c =
+make_actors-requires-clause-may g c κs within =
     may_cast (queues_in c.args.defs.now) c.args.left.items c.deref.result.now c.in_ok-opened.opened.queues.items c.in_ok-opened.opened.bosses.items c.in_ok-opened.ensures.opened
     (rows_left c.args.left.items) (actors_in c.args.phase) c.in_ok-opened.ensures.opens (rw c.deref.ensures.value c.in_ok-puts.ensures.each)
 
@@ -148,6 +145,10 @@ play_actors-requires-clause-logs g c κs within =
     (c.in-Ok.ensures.items, omega (arith, count, all, c.in-Ok.ensures.exact, c.len.ensures, c.in_ok-actors.actors.ok.0, c.args.phase.actors.ok.0))
 
 -- Ends
+
+pub close_queues-requires-clause-kind : goal.close_queues-requires-clause-kind
+close_queues-requires-clause-kind g c =
+    all_listed (queues_in c.args.defs.now) c.args.left.items c.deref.result.now c.in_ok-opened.opened.queues.items c.in_ok-opened.opened.bosses.items c.in_ok-opened.ensures.opened c.requires.lists
 
 pub close_queues-requires-clause-bosses : goal.close_queues-requires-clause-bosses
 close_queues-requires-clause-bosses g c =
