@@ -4,7 +4,7 @@ use Rattle.any_queue.proofs.Sharing.{leads_fresh, leads_split, may_part, first_o
 use Rattle.any_queue.proofs.shared_tests.two_threads_take_what_two_put.Goals as goal
 
 pub taker-three-requires-clause-may : goal.taker-three-requires-clause-may
-taker-three-requires-clause-may g c =
+taker-three-requires-clause-may g c κs =
     let s0 = sight_in c.in_ok-queue.boss in
     let s1 = sight_in c.putter-one.new.boss in
     let s2 = sight_in c.putter-two.new.boss in
