@@ -111,7 +111,7 @@ all_lists P q (suc n) all = append (rows_of q n) (all-filter P (is_of_list n) q.
   append (x ∷ xs) here rest = (here.0, append xs here.1 rest)
 
 -- of the rows that stay each is not deleted
-staying : (P : Row → Type 0) (xs : List Row) → AllByRecursion P xs → AllByRecursion (λ x. P x × (stays x.state ≡ true)) (filter (λ x. stays x.state) xs)
+pub staying : (P : Row → Type 0) (xs : List Row) → AllByRecursion P xs → AllByRecursion (λ x. P x × (stays x.state ≡ true)) (filter (λ x. stays x.state) xs)
 staying P [] each = tt
 staying P (x ∷ xs) each = by_test (stays x.state) refl (staying P xs each.1) where
   by_test : (b : Bool) → stays x.state ≡ b → AllByRecursion (λ y. P y × (stays y.state ≡ true)) (filter (λ y. stays y.state) xs)

@@ -30,7 +30,6 @@ use Rattle.any_queue.specs.Kinds.{build_in, rings, sight_in, ServesAny}
 use Rattle.any_queue.specs.Parting.{AllMayStart, IsFresh, StartsApart, kind_of}
 use Rattle.phase_text.specs.declared.logs.Rest.{Rest}
 use Rattle.line_core.specs.Places as lines
-use Rattle.account_core.specs.Carry as carry
 use Rattle.account_core.specs.Carry.{Opens, unnumbered, uses_bells}
 use Rattle.account_core.specs.Phases.{AllOpen}
 use Rattle.account_core.specs.Texts.{queue_names}
@@ -109,7 +108,7 @@ start_rows (e ∷ es) (s ∷ start) (x ∷ xs) c a =
     λ i. first i ∷ rest i
 
 -- a definition makes the same kind of queue everywhere
-pub of_kind : (k : QueueKind) → kind_of k ≡ carry.kind_of k
+pub of_kind : (k : QueueKind) → kind_of k ≡ lines.kind_of k
 of_kind Standard = refl
 of_kind (Priority n) = refl
 of_kind (Sorted key) = refl

@@ -1,5 +1,5 @@
 -- what the queues of a phase hand on to the next phase, as entries
-use Rattle.std.specs.Prelude.{◌≡◌, ℕ, Bool, Option, Some, None, List, [], ◌∷◌, length, map, slice_get, Vec}
+use Rattle.std.specs.Prelude.{◌≡◌, ℕ, Bool, not, filter, Option, Some, None, List, [], ◌∷◌, length, map, slice_get, Vec}
 use Rattle.std.specs.declared.alloc.Global.{Global}
 use Rattle.std.specs.List.{AllByRecursion, count_by}
 use Rattle.queue_model.specs.declared.rows.Row.{Row}
@@ -18,6 +18,10 @@ use Rattle.account_core.specs.Texts.{holder_of}
 -- the entries that were left of a queue, as code has them
 abbrev pub Remains : Type 0
 Remains = Vec (RestEntry Parcel) Global
+
+-- those of some entries that are not outdated
+abbrev pub lasting_in : List (RestEntry Parcel) → List (RestEntry Parcel)
+lasting_in es = filter (λ e. not e.outdated) es
 
 -- An entry that was left, as the row with which its queue goes on: it is available and has no number yet, and of where
 -- it came from the place of its body stays.

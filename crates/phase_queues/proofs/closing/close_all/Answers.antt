@@ -2,7 +2,7 @@ use Rattle.std.proofs.Common.{◌∷◌, [], List, length, length-append, sym, a
 use Rattle.any_queue.specs.declared.kinds.AnyPass.{AnyPass}
 use Rattle.any_queue.specs.declared.kinds.AnyQueue.{AnyQueue}
 use Rattle.txn_core.specs.declared.parcels.Parcel.{Parcel}
-use Rattle.phase_queues.proofs.Leaves.{Leaving, is_last, leaves_one, leaving_begins, listed_last, serves_last}
+use Rattle.phase_queues.proofs.Leaves.{Leaving, is_last, leaves_one, leaving_begins, serves_last}
 use Rattle.phase_queues.proofs.closing.close_all.Goals as goal
 
 pub queues-init : goal.queues-init
@@ -33,7 +33,6 @@ queues-preserved g c =
     let l = subst (λ (t : List (AnyQueue Parcel g.row.R.Denot) × List AnyPass). Leaving c.args.queues.items c.args.bosses.items t.0 t.1 c.queues.left.items) (λ i. (c.in-Some.ensures.items i, c.in-Some-pop.ensures.items i)) c.queues.invariant.leaving in
     let more = leaves_one c.args.queues.items c.args.bosses.items c.pop.new.self.items c.pop-in-Some.new.self.items c.in-Some.queue c.in-Some-pop.boss c.queues.left.items l c.close.result
     (record {
-      listed = listed_last c.args.queues.items c.args.bosses.items c.pop.new.self.items c.pop-in-Some.new.self.items c.in-Some.queue c.in-Some-pop.boss c.queues.left.items l c.requires.kind;
       closed = c.close.ensures.closed;
       keys = c.close.ensures.keys;
     }) in

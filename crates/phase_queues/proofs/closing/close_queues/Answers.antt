@@ -36,12 +36,12 @@ returns-clause-told g c = λ defs names.
     (omega (arith, rests, a, r)) (omega (arith, kept, r, n)) names c.requires.none told
 
 pub returns-clause-left : goal.returns-clause-left
-returns-clause-left g c =
+returns-clause-left g c = λ defs rows opens.
     let many = c.requires.bosses in
     let a = c.args.queues.ok in
     let b = c.args.bosses.ok in
     let sound = all_sound c.args.queues.items c.args.bosses.items (omega (arith, many, a, b)) c.requires.serves c.requires.last in
-    all_rows c.args.queues.items c.args.bosses.items c.close_all.new.left.items c.close_all.ensures sound
+    all_rows c.args.queues.items c.args.bosses.items c.close_all.new.left.items c.leave_out_all.new.left.items defs rows c.close_all.ensures sound c.leave_out_all.ensures opens
 
 pub returns-clause-stay : goal.returns-clause-stay
 returns-clause-stay g c = λ defs rows opens.
@@ -49,7 +49,7 @@ returns-clause-stay g c = λ defs rows opens.
     let a = c.args.queues.ok in
     let b = c.args.bosses.ok in
     let sound = all_sound c.args.queues.items c.args.bosses.items (omega (arith, many, a, b)) c.requires.serves c.requires.last in
-    all_stay c.args.queues.items c.args.bosses.items c.close_all.new.left.items defs rows c.close_all.ensures sound opens
+    all_stay c.args.queues.items c.args.bosses.items c.close_all.new.left.items c.leave_out_all.new.left.items defs rows c.close_all.ensures sound c.leave_out_all.ensures opens
 
 pub returns-clause-rows : goal.returns-clause-rows
 returns-clause-rows g c =
@@ -57,7 +57,7 @@ returns-clause-rows g c =
     let a = c.args.queues.ok in
     let b = c.args.bosses.ok in
     let sound = all_sound c.args.queues.items c.args.bosses.items (omega (arith, many, a, b)) c.requires.serves c.requires.last in
-    of_rows c.args.queues.items c.args.bosses.items c.close_all.new.left.items c.close_all.ensures sound
+    of_rows c.args.queues.items c.args.bosses.items c.close_all.new.left.items c.close_all.ensures sound c.leave_out_all.new.left.items c.leave_out_all.ensures
 
 pub returns-clause-callers : goal.returns-clause-callers
 returns-clause-callers g c =
