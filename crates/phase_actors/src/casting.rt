@@ -7,7 +7,6 @@ ghost use Rattle.defs_read.specs.Defined.{queues_in};
 ghost use Rattle.script_read.specs.Allowed.{IsAllowedPhase, IsOpOf, ops_in};
 ghost use Rattle.script_read.specs.Phases.{actors_in};
 ghost use Rattle.any_queue.specs.Kinds.{ServesAny, build_in, sight_in};
-ghost use Rattle.any_queue.specs.Parting.{IsOfLists};
 ghost use Rattle.workers_core.specs.Drops.{all_rows};
 ghost use Rattle.workers_core.specs.Made.{IsServed};
 ghost use Rattle.workers_core.specs.Phases.{MayDrop, MayRun, lines_of};
@@ -44,7 +43,6 @@ pub fn make_actors<R: Wait + Send + Sync + Drop>(
     roster: &mut Roster,
 ) -> Result<Vec<Actor<AnyQueue<Parcel, R>>>, NoMemory>
     requires allowed { AreAllowed (queues_in defs.now) }
-    requires lists { AllByRecursion (λ d. IsOfLists d.kind) (queues_in defs.now) }
     requires phase { IsAllowedPhase (queues_in defs.now) false (actors_in phase) }
     requires served { AllByRecursion HasServedOps (actors_in phase) }
     requires queues { length queues.now ≡ length (queues_in defs.now) }
@@ -110,7 +108,6 @@ fn make_actor<R: Wait + Send + Sync + Drop>(
     roster: &mut Roster,
 ) -> Result<Actor<AnyQueue<Parcel, R>>, NoMemory>
     requires allowed { AreAllowed (queues_in defs.now) }
-    requires lists { AllByRecursion (λ d. IsOfLists d.kind) (queues_in defs.now) }
     requires own { AllByRecursion (IsOpOf (queues_in defs.now) false name) ops.items }
     requires served { AllByRecursion (λ op. IsServed op.what) ops.items }
     requires number { number < 64 }
