@@ -14,8 +14,6 @@ use Rattle.acts_core.specs.Sight.{Build, Sight}
 use Rattle.txn_core.specs.declared.parcels.Parcel.{Parcel}
 use Rattle.defs_read.specs.Defined.{Defined}
 use Rattle.defs_read.specs.Slips.{lists_of}
-use Rattle.defs_read.specs.declared.defs.QueueKind.{QueueKind}
-use Rattle.defs_read.specs.declared.defs.QueueKind.TheVariants.{Standard, Priority, Sorted, LastValue}
 use Rattle.script_read.specs.Allowed.{ops_in}
 use Rattle.script_read.specs.Phases.{Actors}
 use Rattle.script_read.specs.declared.lines.Op.{Op}
@@ -24,9 +22,7 @@ use Rattle.entry_table.specs.Rule.{below}
 use Rattle.any_queue.specs.declared.kinds.AnyPass.{AnyPass}
 use Rattle.any_queue.specs.declared.kinds.AnyQueue.{AnyQueue}
 use Rattle.any_queue.specs.Kinds.{build_in, sight_in}
-use Rattle.line_core.specs.Places.{AreOfKinds}
-use Rattle.line_core.specs.Places as lines
-use Rattle.any_queue.specs.Parting.{IsOfLists, kind_of}
+use Rattle.line_core.specs.Places.{AreOfKinds, kind_of}
 use Rattle.workers_core.specs.Made.{puts_in}
 use Rattle.account_core.specs.Phases.{AllOpen}
 use Rattle.phase_queues.specs.Opened.{AreOpened, HasRoom, all_played, played}
@@ -59,7 +55,7 @@ mem_below (suc n) k less = ⊎_elim
     (λ other. mem-append_left (n ∷ []) (mem_below n k (omega (arith, less, other))))
     (cases_eq k n)
 
-module _ (defs : List Defined) (lefts : Lefts) (puts : List ℕ) (queues : List (AnyQueue Parcel)) (bosses : List AnyPass) (opened : AreOpened defs lefts puts queues bosses) where
+module _ {R : Type 0} (defs : List Defined) (lefts : Lefts) (puts : List ℕ) (queues : List (AnyQueue Parcel R)) (bosses : List AnyPass) (opened : AreOpened defs lefts puts queues bosses) where
   -- each is of the kind that its definition asks for
   pub are_of_kinds : (rows : List (List Row)) → AllOpen defs rows (all_played queues bosses) → AreOfKinds defs (map build_in queues)
   are_of_kinds rows opens q def b at_def at_b =

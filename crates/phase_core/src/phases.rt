@@ -4,7 +4,6 @@ ghost use Rattle.std.specs.List.{AllByRecursion};
 ghost use Rattle.std.specs.Option.{option_map};
 ghost use Rattle.acts_core.specs.Sight.{Sight};
 ghost use Rattle.any_queue.specs.Kinds.{ServesAny, build_in, sight_in};
-ghost use Rattle.any_queue.specs.Parting.{IsOfLists};
 ghost use Rattle.defs_read.specs.Allowed.{AreAllowed};
 ghost use Rattle.defs_read.specs.Defined.{queues_in};
 ghost use Rattle.phase_actors.specs.Cast.{HasServedOps};
@@ -106,7 +105,6 @@ pub fn play_phase<R: Threads + Wait + Clone + Send + Sync + Drop, G: Gate>(
     gate: &G,
 ) -> Result<PhaseEnd, NoMemory>
     requires allowed { AreAllowed (queues_in defs.now) }
-    requires lists { AllByRecursion (λ d. IsOfLists d.kind) (queues_in defs.now) }
     requires policies { ServesPolicies (queues_in defs.now) }
     requires phase { IsAllowedPhase (queues_in defs.now) false (actors_in phase) }
     requires served { AllByRecursion HasServedOps (actors_in phase) }

@@ -59,9 +59,6 @@ returns-in_err-opened-clause-kept g c = search (rules, on_err, same_seats)
 pub make_actors-requires-clause-allowed : goal.make_actors-requires-clause-allowed
 make_actors-requires-clause-allowed g c κs within = c.requires.allowed
 
-pub make_actors-requires-clause-lists : goal.make_actors-requires-clause-lists
-make_actors-requires-clause-lists g c κs within = c.requires.lists
-
 pub make_actors-requires-clause-phase : goal.make_actors-requires-clause-phase
 make_actors-requires-clause-phase g c κs within = c.requires.phase
 
@@ -100,12 +97,12 @@ rows_of-rows-requires-clause-room g c =
     rw c.as_slice.ensures.value (rw c.as_slice-2.ensures.value room)
 
 pub make_actors-requires-clause-rows : goal.make_actors-requires-clause-rows
-make_actors-requires-clause-rows g c =
+make_actors-requires-clause-rows g c κs within =
     let many = lefts_many (queues_in c.args.defs.now) c.args.left.items c.requires.stay in
     let all = rw c.deref.ensures.value at (opened_rows (queues_in c.args.defs.now) c.args.left.items c.deref.result.now c.in_ok-opened.opened.queues.items c.in_ok-opened.opened.bosses.items c.in_ok-opened.ensures.opened many) in
     let counted = rw c.as_slice.ensures.value at (rw c.as_slice-2.ensures.value at c.rows_of-rows.ensures) in
-    let within : all_rows (map build_in c.in_ok-opened.opened.queues.items) ≤ c.rows_of-rows.result = omega (arith, all, counted) in
-    rw c.deref-2.ensures.value within
+    let few : all_rows (map build_in c.in_ok-opened.opened.queues.items) ≤ c.rows_of-rows.result = omega (arith, all, counted) in
+    rw c.deref-2.ensures.value few
 
 pub returns-in_err-actors-clause-kept : goal.returns-in_err-actors-clause-kept
 returns-in_err-actors-clause-kept g c = search (rules, on_err, c.in_err-actors.ensures.kept)
@@ -145,10 +142,6 @@ play_actors-requires-clause-logs g c κs within =
     (c.in-Ok.ensures.items, omega (arith, count, all, c.in-Ok.ensures.exact, c.len.ensures, c.in_ok-actors.actors.ok.0, c.args.phase.actors.ok.0))
 
 -- Ends
-
-pub close_queues-requires-clause-kind : goal.close_queues-requires-clause-kind
-close_queues-requires-clause-kind g c =
-    all_listed (queues_in c.args.defs.now) c.args.left.items c.deref.result.now c.in_ok-opened.opened.queues.items c.in_ok-opened.opened.bosses.items c.in_ok-opened.ensures.opened c.requires.lists
 
 pub close_queues-requires-clause-bosses : goal.close_queues-requires-clause-bosses
 close_queues-requires-clause-bosses g c =
@@ -222,6 +215,7 @@ returns-clause-plays g c =
     (played.lines ∙ sym made.lines) played.begun (λ i a at. (made.cast i a at).1.targets) in
     let go = seats_go defs false actors played.stories _ _ _ story_serves c.requires.phase played.lines played.fit has made.roster played.returned in
     plays_phase defs c.args.left.items actors _ queues opened begun lasts _ _ _ many ready.opens made.bosses.openings numbered c.requires.once played settles rows_count few_entered opens_count closed_played states_named _ _ refl c.requires.phase go
-    (c.close_queues.ensures.told defs ready.names) c.close_queues.ensures.left
+    (c.close_queues.ensures.told defs ready.names)
+    (c.close_queues.ensures.left defs (rows_left c.args.left.items) (opens_now defs c.args.left.items actors _ queues opened begun lasts _ _ _ many ready.opens made.bosses.openings numbered c.requires.once played settles rows_count few_entered opens_count))
     (c.close_queues.ensures.stay defs (rows_left c.args.left.items) (opens_now defs c.args.left.items actors _ queues opened begun lasts _ _ _ many ready.opens made.bosses.openings numbered c.requires.once played settles rows_count few_entered opens_count))
     c.close_queues.ensures.rows
