@@ -70,7 +70,7 @@ pub logs_tell : (logs : List Log) (stories : List Story) → LogsTell logs stori
 logs_tell [] [] tell = refl
 logs_tell [] (s ∷ stories) tell = absurd tell
 logs_tell (log ∷ logs) [] tell = absurd tell
-logs_tell (log ∷ logs) (s ∷ stories) tell = ap₂ (λ (xs ys : Lines). xs ++ ys) tell.1 (logs_tell logs stories tell.2)
+logs_tell (log ∷ logs) (s ∷ stories) tell = ap₂ (λ (xs ys : Lines). xs ++ ys) tell.1 (logs_tell logs stories tell.3)
 
 told_few : (ops : List Op) (answers : List Answer) → length (told ops answers) ≤ length ops
 told_few [] answers = omega arith
