@@ -223,13 +223,13 @@ rest_named stories q p opens played = record { named = holders_named actors es e
   state = rest_of p
 
   es : List Row
-  es = entries_of state
+  es = entries_of p.plan.kind state
 
   callers : AllByRecursion (IsByActor (length actors)) p.history
   callers = subst (λ (n : ℕ). AllByRecursion (IsByActor n) p.history) (sym (length-map stories (λ (s : Story). s.name))) played.callers
 
   each : AllByRecursion (λ x. Tells actors x × (stays x.state ≡ true)) es
-  each = all_entries (Tells actors) state
+  each = all_entries (Tells actors) p.plan.kind state
       (rows_tell actors p state.rows opens callers (rows_found p.plan.opening p.history opens played.legal) played.rests
       (λ r x found. state_named actors p.plan.opening p.history r x.state opens played.legal callers (x, found, refl)))
 
@@ -238,7 +238,7 @@ rest_named stories q p opens played = record { named = holders_named actors es e
       let sound = sound_after p.plan.opening p.history (sound_opening p.plan.opening opens) played.legal in
       let told_sizes = sum_map (λ (e : Resting). e.size) resting es in
       let counted = sum_by-le-times (λ (x : Row). x.slip.size) row_bytes 1 es (sizes_count actors es each) in
-      let within = entries_le row_bytes state in
+      let within = entries_le row_bytes p.plan.kind state in
       let low = depth_low state sound in
       omega (arith, told_sizes, counted, within, low, sound.small)
 

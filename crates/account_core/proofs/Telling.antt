@@ -12,7 +12,7 @@ use Rattle.phase_text.specs.Logs.{line_text, log_text, rest_text, phase_text}
 use Rattle.phase_text.specs.declared.logs.Log.{Log}
 use Rattle.phase_text.specs.declared.logs.Rest.{Rest}
 use Rattle.account_core.specs.Accounts.{Account}
-use Rattle.account_core.specs.Carry.{carried, entries_of, handed_on}
+use Rattle.account_core.specs.Carry.{carried, handed_on, lasting}
 use Rattle.account_core.specs.Laws.{goods}
 use Rattle.account_core.specs.Played.{Played, rest_of}
 use Rattle.account_core.specs.Stories.{Story, told}
@@ -65,12 +65,12 @@ keeps : (xs : List Row) → map goods (map carried xs) ≡ map goods xs
 keeps [] = refl
 keeps (x ∷ xs) = ap (λ rest. goods x ∷ rest) (keeps xs)
 
-pub carry_keeps : (p : Played) → map goods (handed_on p) ≡ map goods (entries_of (rest_of p))
-carry_keeps p = keeps (entries_of (rest_of p))
+pub carry_keeps : (p : Played) → map goods (handed_on p) ≡ map goods (lasting p.plan.kind (rest_of p))
+carry_keeps p = keeps (lasting p.plan.kind (rest_of p))
 
 frees : (xs : List Row) → AllByRecursion (λ x. x.state ≡ Available) (map carried xs)
 frees [] = tt
 frees (x ∷ xs) = (refl, frees xs)
 
 pub carry_frees : (p : Played) → AllByRecursion (λ x. x.state ≡ Available) (handed_on p)
-carry_frees p = frees (entries_of (rest_of p))
+carry_frees p = frees (lasting p.plan.kind (rest_of p))

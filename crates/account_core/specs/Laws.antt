@@ -27,7 +27,7 @@ use Rattle.phase_text.specs.declared.logs.Rest.{Rest}
 use Rattle.txn_core.specs.Shown.{number_after}
 use Rattle.line_core.specs.Fits.{Did, On, Standing, LineFits}
 use Rattle.account_core.specs.Accounts.{Account}
-use Rattle.account_core.specs.Carry.{entries_of, handed_on}
+use Rattle.account_core.specs.Carry.{handed_on, lasting}
 use Rattle.account_core.specs.Played.{Played, IsClosed, IsPlayed, rest_of}
 use Rattle.account_core.specs.Stories.{Story, told}
 use Rattle.account_core.specs.Phases.{ArePhases, IsPhase, rows_after}
@@ -65,9 +65,9 @@ GotCounts =
 abbrev pub goods : Row → (Slip × List ℕ) × ℕ
 goods x = ((x.slip, x.content), x.count)
 
--- a carry keeps the entries in their order, with these
+-- a carry keeps the entries that are not outdated in their order, with these
 abbrev pub CarryKeeps : Type 0
-CarryKeeps = (p : Played) → map goods (handed_on p) ≡ map goods (entries_of (rest_of p))
+CarryKeeps = (p : Played) → map goods (handed_on p) ≡ map goods (lasting p.plan.kind (rest_of p))
 
 -- and frees each
 abbrev pub CarryFrees : Type 0

@@ -39,7 +39,7 @@ abbrev pub resting : Row → Resting
 resting x = record { id = x.slip.id; size = x.slip.size; holder = holder_of x.state }
 
 abbrev pub resting_in : Played → List Resting
-resting_in p = map resting (entries_of (rest_of p))
+resting_in p = map resting (entries_of p.plan.kind (rest_of p))
 
 -- each queue with its entries, in order
 abbrev pub queues_text : List (List ℕ) → List Defined → List Played → List ℕ

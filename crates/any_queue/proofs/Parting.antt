@@ -5,7 +5,7 @@ use Rattle.queue_model.specs.declared.deeds.Deed.{Deed}
 use Rattle.queue_model.specs.declared.rows.Slip.{Slip}
 use Rattle.queue_model.specs.History.{own, after, Legal}
 use Rattle.acts_core.specs.Load.{Load}
-use Rattle.acts_core.specs.Sight.{Build, Sight}
+use Rattle.acts_core.specs.Sight.{Kind, Listed, Build, Sight}
 use Rattle.entry_table.specs.declared.entries.Entries.{Entries}
 use Rattle.entry_table.specs.declared.pass.Pass.{Pass}
 use Rattle.entry_table.specs.declared.view.Shape.{Shape}
@@ -18,7 +18,7 @@ use Rattle.entry_table.specs.Views.{Has, caller_of, rest_of}
 use Rattle.entry_table.proofs.Concerning.{in_has}
 use Rattle.entry_table.proofs.Sighting.{mem_in, others_stay}
 use Rattle.entry_table.proofs.Serving.{sight_boss, sight_made, sight_joined}
-use Rattle.any_queue.specs.Kinds.{belled_lists}
+use Rattle.any_queue.specs.Kinds.{built}
 use Rattle.any_queue.specs.Parting.{IsFresh, MayPart, IsSplit, IsJoined, IsLast}
 
 -- Members
@@ -49,9 +49,9 @@ idle_ended p s1 t k m =
     let within : Mem k (callers p) = subst (Mem k) (sym p.speaks) (mem-cons_of_mem p.caller m) in
     others_stay (callers p) (view p).consumers (suc k) k (seen p) s1 [] (mem_in k (callers p) within) (λ e. omega (arith, e)) t.concern_more
 
-pub is_fresh : {C : Type 0} (load : C → Load) (lists rows consumed : ℕ) (start : List (Slip × C)) (e : Entries C) (p : Pass) → IsMade load lists rows consumed start e p → IsFresh load lists rows consumed start (build_of e) (sight p)
+pub is_fresh : {C : Type 0} (load : C → Load) (lists rows consumed : ℕ) (start : List (Slip × C)) (e : Entries C) (p : Pass) → IsMade load lists rows consumed start e p → IsFresh load Listed lists rows consumed start (build_of e) (sight p)
 is_fresh load lists rows consumed start e p m = record {
-  build_is = ap belled_lists m.rows_is;
+  build_is = ap (built Listed) m.rows_is;
   lists_is = ap (λ (l : List Deed). (after (opening p) l).lists) (sym m.seen_is) ∙ p.within.lists ∙ ap (λ (z : Shape). z.lists) m.pass.shape ∙ m.lists_is;
   consumers_is = ap (λ (l : List Deed). (after (opening p) l).consumers) (sym m.seen_is) ∙ p.within.consumers ∙ ap (λ (z : Shape). z.consumers) m.pass.shape ∙ m.consumers_is;
   opened = m.opened;
@@ -115,5 +115,5 @@ pub parts : (p : Pass) (cs : List ℕ) (n : ℕ) → MayPart (sight p) cs n → 
 parts p cs n may c has = mem_has c (view p).consumers (may.has c (has_mem c cs has))
 
 -- the boss's pass of a new queue of one consumer has it
-pub has_only : {C : Type 0} (load : C → Load) (lists rows n : ℕ) (start : List (Slip × C)) (build : Build) (s : Sight) → IsFresh load lists rows n start build s → n ≡ 1 → Mem 0 s.consumers
-has_only load lists rows n start build s f one = subst (Mem 0) (sym (ap (λ (z : Sight). z.consumers) f.sight ∙ ap below one)) mem-cons_self
+pub has_only : {C : Type 0} (load : C → Load) (kind : Kind) (lists rows n : ℕ) (start : List (Slip × C)) (build : Build) (s : Sight) → IsFresh load kind lists rows n start build s → n ≡ 1 → Mem 0 s.consumers
+has_only load kind lists rows n start build s f one = subst (Mem 0) (sym (ap (λ (z : Sight). z.consumers) f.sight ∙ ap below one)) mem-cons_self

@@ -1,23 +1,28 @@
 -- what the tests that share a queue among threads rest on
 use Rattle.std.proofs.Common.{◌≡◌, ℕ, zero, suc, ◌+◌, ◌-◌, ◌<◌, ◌≤◌, ◌^◌, List, [], ◌∷◌, length, refl, sym, ap, ◌∙◌, subst, arith, ⊎_elim, inl}
-use Rattle.std.specs.Prelude.{Some}
+use Rattle.std.specs.Prelude.{Option, Some, None}
 use mathlib.Core.List.{Mem, mem-cons_self}
 use Rattle.queue_model.specs.declared.queues.Queue.{Queue}
-use Rattle.queue_model.specs.declared.rows.RowState.TheVariants.{Locked}
+use Rattle.queue_model.specs.declared.rows.RowState.TheVariants.{Available, Dequeued, Locked}
+use Rattle.queue_model.specs.declared.rows.Row.{Row}
 use Rattle.queue_model.specs.declared.rows.Slip.{Slip}
-use Rattle.queue_model.specs.State.{IsIn}
+use Rattle.queue_model.specs.declared.deeds.Deed.{Deed}
+use Rattle.queue_model.specs.History.{after}
+use Rattle.queue_model.proofs.KeyedLemmas.{all-find}
+use Rattle.queue_model.specs.State.{IsIn, is_row}
+use Rattle.entry_table.specs.Resting.{Settled}
 use Rattle.queue_model.specs.Table.{FitsQueue, most_entries}
-use Rattle.acts_core.specs.Asked.{most_callers}
+use Rattle.acts_core.specs.Asked.{KeyFits, most_callers}
 use Rattle.acts_core.specs.Calls.{CallNext, CallOldest, CallLock, CallSteal, IsGot, IsLocked, HasStolen}
 use Rattle.acts_core.specs.Hands.{InHand}
 use Rattle.acts_core.specs.Load.{Load}
 use Rattle.acts_core.specs.Meaning.{Called}
-use Rattle.acts_core.specs.Sight.{Build, Sight, known}
+use Rattle.acts_core.specs.Sight.{Kind, Listed, Sorted, LastValue, Build, Sight, known}
 use Rattle.acts_core.proofs.Passes.{pass_gains, pass_hands}
 use Rattle.acts_core.proofs.Running.{lists_stay}
 use Rattle.entry_table.specs.Plays.{not_in}
 use Rattle.entry_table.specs.Rule.{below}
-use Rattle.any_queue.specs.Parting.{IsFresh, IsSplit, MayPart}
+use Rattle.any_queue.specs.Parting.{IsFresh, IsLast, IsSplit, MayPart, StartsApart}
 use Rattle.any_queue.proofs.Parting.{has_mem, mem_has}
 
 -- an entry that two consumers want fits a queue of one list and two consumers
@@ -31,9 +36,50 @@ fits_two s slip one two size mask list =
       mask = subst (λ (n : ℕ). slip.mask < 2 ^ n) (sym (stay.1 ∙ two)) (omega (arith, mask));
     }
 
+-- an entry that one consumer wants fits a queue of one list and that consumer
+pub fits_one : (s : Sight) (slip : Slip) → s.opening.lists ≡ 1 → s.opening.consumers ≡ 1 → slip.size ≡ 0 → slip.mask ≡ 1 → slip.list ≡ 0
+    → FitsQueue (known s).lists (known s).consumers slip
+fits_one s slip one also size mask list =
+    let stay = lists_stay s.opening s.seen in
+    record {
+      size = omega (arith, size);
+      list = let lists = stay.0 in omega (arith, lists, one, list);
+      mask = subst (λ (n : ℕ). slip.mask < 2 ^ n) (sym (stay.1 ∙ also)) (omega (arith, mask));
+    }
+
+-- any queue may start with nothing
+pub none_apart : {C : Type 0} (kind : Kind) (start : List (Slip × C)) → start ≡ [] → StartsApart kind start
+none_apart {C} kind start none = subst (StartsApart kind) (sym none) (by_kind kind) where
+  by_kind : (k : Kind) → StartsApart {C = C} k []
+  by_kind Listed = tt
+  by_kind Sorted = tt
+  by_kind LastValue = λ i j less low. absurd (omega (arith, low))
+
+-- each kind of queue takes an entry without a key
+pub none_fits : (kind : Kind) (key : Option (List ℕ)) → key ≡ None → KeyFits kind key
+none_fits Listed key none = none
+none_fits Sorted key none = tt
+none_fits LastValue key none = tt
+
+-- of a new queue the boss's pass is the last
+pub fresh_last : {C : Type 0} (load : C → Load) (kind : Kind) (lists rows n : ℕ) (start : List (Slip × C)) (build : Build) (s : Sight) → IsFresh load kind lists rows n start build s → IsLast s
+fresh_last load kind lists rows n start build s f = record {
+  boss = ap (λ (z : Sight). z.caller) f.sight;
+  every = λ k low.
+      let made = ap (λ (z : Sight). z.made) f.sight in
+      let caller = ap (λ (z : Sight). z.caller) f.sight in
+      let is : s.caller ≡ k = omega (arith, low, made, caller) in
+      subst (λ (h : ℕ). Mem h (s.caller ∷ s.ended)) is mem-cons_self;
+  settled = subst (λ (ds : List Deed). Settled (after s.opening ds)) (sym (ap (λ (z : Sight). z.seen) f.sight)) rests;
+} where
+  rests : Settled s.opening
+  rests r x e =
+      let free : x.state ≡ Available = all-find (λ (y : Row). y.state ≡ Available) (is_row r) s.opening.rows x f.opened.available e in
+      ((λ gone. let bad : Available ≡ Dequeued = sym free ∙ gone in absurd (cc)), λ h held. let bad : Available ≡ Locked h = sym free ∙ held in absurd (cc))
+
 -- the boss's pass of a new queue of two consumers has the first
-pub has_zero : {C : Type 0} (load : C → Load) (lists rows n : ℕ) (start : List (Slip × C)) (build : Build) (s : Sight) → IsFresh load lists rows n start build s → n ≡ 2 → Mem 0 s.consumers
-has_zero load lists rows n start build s f two = subst (Mem 0) (sym (ap (λ (z : Sight). z.consumers) f.sight ∙ ap below two)) mem-cons_self
+pub has_zero : {C : Type 0} (load : C → Load) (kind : Kind) (lists rows n : ℕ) (start : List (Slip × C)) (build : Build) (s : Sight) → IsFresh load kind lists rows n start build s → n ≡ 2 → Mem 0 s.consumers
+has_zero load kind lists rows n start build s f two = subst (Mem 0) (sym (ap (λ (z : Sight). z.consumers) f.sight ∙ ap below two)) mem-cons_self
 
 -- the boss's pass, as its splits leave it
 pub record Leads (o : Queue) (m a n : ℕ) (cs : List ℕ) (s : Sight) : Type 0 where
@@ -45,9 +91,9 @@ pub record Leads (o : Queue) (m a n : ℕ) (cs : List ℕ) (s : Sight) : Type 0 
   pub consumers : s.consumers ≡ cs
 
 module _ {C : Type 0} (load : C → Load) where
-  pub leads_fresh : (lists rows consumers : ℕ) (start : List (Slip × C)) (build : Build) (s : Sight) → IsFresh load lists rows consumers start build s → start ≡ [] → consumers ≡ 2
+  pub leads_fresh : (kind : Kind) (lists rows consumers : ℕ) (start : List (Slip × C)) (build : Build) (s : Sight) → IsFresh load kind lists rows consumers start build s → start ≡ [] → consumers ≡ 2
       → Leads s.opening 1 most_entries rows (0 ∷ 1 ∷ []) s
-  leads_fresh lists rows consumers start build s f nothing two =
+  leads_fresh kind lists rows consumers start build s f nothing two =
       let none : length start ≡ 0 = ap (λ (xs : List (Slip × C)). length xs) nothing in record {
         opening = refl;
         caller = ap (λ (z : Sight). z.caller) f.sight;

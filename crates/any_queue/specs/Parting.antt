@@ -4,18 +4,27 @@ use mathlib.Core.List.{IsPrefix, Mem}
 use Rattle.queue_model.specs.declared.rows.Slip.{Slip}
 use Rattle.queue_model.specs.History.{Legal, own}
 use Rattle.queue_model.specs.Sound.{IsOpening}
-use Rattle.queue_model.specs.Table.{most_entries}
-use Rattle.acts_core.specs.Asked.{most_callers}
+use Rattle.queue_model.specs.Table.{FitsQueue, most_entries}
+use Rattle.acts_core.specs.Asked.{KeyFits, most_callers}
 use Rattle.acts_core.specs.Load.{Load}
 use Rattle.acts_core.specs.Rest.{AreRests, Left}
+use Rattle.acts_core.specs.Sight as kinds
 use Rattle.acts_core.specs.Sight.{Kind, Build, Sight, known}
-use Rattle.any_queue.specs.Kinds.{belled_lists}
+use Rattle.any_queue.specs.Kinds.{built}
 use Rattle.defs_read.specs.declared.defs.QueueKind.{QueueKind}
 use Rattle.defs_read.specs.declared.defs.QueueKind.TheVariants.{Standard, Priority, Sorted, LastValue}
 use Rattle.entry_table.specs.Plays.{not_in}
 use Rattle.entry_table.specs.Resting.{Settled}
 use Rattle.entry_table.specs.Rule.{below}
 use Rattle.entry_table.specs.Starting.{AreStarted}
+use Rattle.lastval_core.specs.Fronts.{KeysApart}
+
+-- what kind of queue a definition makes
+abbrev pub kind_of : QueueKind → Kind
+kind_of Standard = kinds.Listed
+kind_of (Priority n) = kinds.Listed
+kind_of (Sorted key) = kinds.Sorted
+kind_of (LastValue key) = kinds.LastValue
 
 -- the queue is built of lists, 1 to 10 of them
 abbrev pub IsOfLists : QueueKind → Type 0
@@ -24,11 +33,31 @@ IsOfLists (Priority n) = (1 ≤ n) × (n ≤ 10)
 IsOfLists (Sorted key) = ⊥
 IsOfLists (LastValue key) = ⊥
 
--- A queue of so many lists, rows and consumers was made with these entries, and the pass of caller 0. The entries are
--- the rows of its opening, available and in their order, and nothing has happened. The pass has all consumers, and may
--- reserve and draw what the entries leave.
-pub record IsFresh {C : Type 0} (load : C → Load) (lists rows consumers : ℕ) (start : List (Slip × C)) (build : Build) (s : Sight) : Type 0 where
-  pub build_is : build ≡ belled_lists rows
+-- Starts
+
+module _ {C : Type 0} (load : C → Load) (kind : Kind) (lists consumers : ℕ) where
+  -- a queue of this kind, and of so many lists and consumers, may start with this entry: its slip fits, a listed queue has
+  -- no keys, and the cargo agrees
+  pub record MayStart (slip : Slip) (c : C) : Type 0 where
+    pub fits : FitsQueue lists consumers slip
+    pub key : KeyFits kind slip.key
+    pub id : (load c).id ≡ slip.id
+    pub size : (load c).size ≡ slip.size
+
+  abbrev pub AllMayStart : List (Slip × C) → Type 0
+  AllMayStart [] = Unit {0}
+  AllMayStart (e ∷ es) = MayStart e.0 e.1 × AllMayStart es
+
+-- no two entries that a last-value queue starts with have one key
+abbrev pub StartsApart : {C : Type 0} → Kind → List (Slip × C) → Type 0
+StartsApart kinds.LastValue start = KeysApart start
+StartsApart kind start = Unit {0}
+
+-- A queue of this kind, and of so many lists, rows and consumers, was made with these entries, and the pass of caller 0.
+-- The entries are the rows of its opening, available and in their order, and nothing has happened. The pass has all
+-- consumers, and may reserve and draw what the entries leave.
+pub record IsFresh {C : Type 0} (load : C → Load) (kind : Kind) (lists rows consumers : ℕ) (start : List (Slip × C)) (build : Build) (s : Sight) : Type 0 where
+  pub build_is : build ≡ built kind rows
   pub lists_is : s.opening.lists ≡ lists
   pub consumers_is : s.opening.consumers ≡ consumers
   pub opened : IsOpening s.opening
@@ -49,6 +78,8 @@ pub record IsFresh {C : Type 0} (load : C → Load) (lists rows consumers : ℕ)
         shown = [];
         turns = 0;
       }
+
+-- Passes
 
 -- The pass of a new caller was split off the boss's: it takes over these consumers, and so many entries that it may
 -- reserve and rows that it may draw. The boss has seen more perhaps, in which callers that were not made have no deed, and

@@ -21,6 +21,8 @@ pub record Deletes (old new : Pass) (row : ℕ) : Type 0 where
       ≡ shown old ++ entry (steps.State row changes.Del Dequeued) (pack_state Dequeued) (pack_state Deleted) (seen mid) ∷ []
   pub then : OnDeleted mid new row
 
--- the same of any queue
+-- the same of any queue: a held queue has nothing to scavenge
 abbrev pub DeletesAny : AnyPass → AnyPass → ℕ → Type 0
 DeletesAny (passes.Listed old) (passes.Listed new) row = Deletes old.pass new.pass row
+DeletesAny (passes.Held old) (passes.Held new) row = Unit {0}
+DeletesAny old new row = ⊥

@@ -12,6 +12,8 @@ use Rattle.any_queue.specs.declared.kinds.ListedPass.{ListedPass}
 abbrev pub WalksListed : {C : Type 0} → ListedPass → ListedPass → ℕ → Next C → Type 0
 WalksListed old new c result = WalksFrom (sight old.pass) (sight new.pass) c old.cursors.slots new.cursors.slots result
 
--- the same of any queue
+-- the same of any queue: on a held queue nothing is walked
 abbrev pub WalksAny : {C : Type 0} → AnyPass → AnyPass → ℕ → Next C → Type 0
 WalksAny (passes.Listed old) (passes.Listed new) c result = WalksListed old new c result
+WalksAny (passes.Held old) (passes.Held new) c result = Unit {0}
+WalksAny old new c result = ⊥

@@ -7,13 +7,14 @@ use crate::shared_tests::{put_one, standard, take_one, wanted};
 use crate::tests::Empty;
 use crate::{AnyPass, AnyQueue};
 use acts_core::{Next, SharedQueue};
+use std::sync::Wait;
 use std::test::Fail;
 
 /// How many entries are taken in order.
 const ENTRIES: u64 = 1000;
 
 /// Puts entries of the ids from 0 on.
-fn put_entries(queue: &AnyQueue<Empty>, pass: &mut AnyPass)
+fn put_entries<W: Wait + Send + Sync + Drop>(queue: &AnyQueue<Empty, W>, pass: &mut AnyPass)
     requires serves { ServesAny queue.now pass.old }
     requires allowed { ENTRIES ≤ (sight_in pass.old).allowance }
     requires lists { (sight_in pass.old).opening.lists ≡ 1 }
@@ -28,7 +29,10 @@ fn put_entries(queue: &AnyQueue<Empty>, pass: &mut AnyPass)
 }
 
 /// Takes entries out for the first consumer; answers how many came in the order of their ids.
-fn take_in_order(queue: &AnyQueue<Empty>, pass: &mut AnyPass) -> u64
+fn take_in_order<W: Wait + Send + Sync + Drop>(
+    queue: &AnyQueue<Empty, W>,
+    pass: &mut AnyPass,
+) -> u64
     requires serves { ServesAny queue.now pass.old }
     requires consumer { Mem 0 (sight_in pass.old).consumers }
     ensures serves { ServesAny queue.now pass.new }
@@ -48,7 +52,7 @@ fn take_in_order(queue: &AnyQueue<Empty>, pass: &mut AnyPass) -> u64
 fn a_thousand_entries_come_in_order(rt: HostRuntime) -> Result<(), Fail> {
     let alloc = rt.alloc();
     let def = standard(alloc)?;
-    let (queue, mut boss) = AnyQueue::make(alloc, &def, ENTRIES, Vec::new(alloc))?;
+    let (queue, mut boss) = AnyQueue::make(rt, alloc, &def, ENTRIES, Vec::new(alloc))?;
     put_entries(&queue, &mut boss);
     assert_eq!(rt; take_in_order(&queue, &mut boss), ENTRIES);
     assert_eq!(rt; take_one(&queue, &mut boss, 0), None);
@@ -56,7 +60,10 @@ fn a_thousand_entries_come_in_order(rt: HostRuntime) -> Result<(), Fail> {
 }
 
 /// Acquires the next entry for the first consumer, and releases it.
-fn acquire_and_release(queue: &AnyQueue<Empty>, pass: &mut AnyPass) -> Option<u64>
+fn acquire_and_release<W: Wait + Send + Sync + Drop>(
+    queue: &AnyQueue<Empty, W>,
+    pass: &mut AnyPass,
+) -> Option<u64>
     requires serves { ServesAny queue.now pass.old }
     requires consumer { Mem 0 (sight_in pass.old).consumers }
     ensures serves { ServesAny queue.now pass.new }
@@ -78,7 +85,7 @@ fn a_consumer_goes_back_to_a_released_entry(rt: HostRuntime) -> Result<(), Fail>
     let alloc = rt.alloc();
     let def = standard(alloc)?;
     let start = vec![in alloc; wanted(7), wanted(8)]?;
-    let (queue, mut boss) = AnyQueue::make(alloc, &def, 2, start)?;
+    let (queue, mut boss) = AnyQueue::make(rt, alloc, &def, 2, start)?;
     assert_eq!(rt; acquire_and_release(&queue, &mut boss), Some(7));
     assert_eq!(rt; take_one(&queue, &mut boss, 0), Some(7));
     assert_eq!(rt; acquire_and_release(&queue, &mut boss), Some(8));

@@ -1,14 +1,23 @@
 //! A queue of any kind, its passes, and the calls that every queue offers.
-use acts_core::{Cargo, Freight, Locking, Next, Placed, Releasing, SharedQueue, Stealing};
+use acts_core::{Cargo, Locking, Next, Placed, Releasing, SharedQueue, Stealing};
 use cursor_core::PassCursors;
 use entry_table::{Entries, Pass};
+use held_table::{Held, HeldPass};
+use lastval_core::LastValue;
 use queue_model::{Depth, Slip};
+use sorted_core::Sorted;
+use std::sync::Wait;
 
-/// A queue of any kind that many callers share.
+/// A queue of any kind that many callers share. The calls of sorted and last-value queues wait for the lock of their
+/// queue, by a handle that it keeps.
 #[derive(Drop)]
-pub enum AnyQueue<C: Freight> {
+pub enum AnyQueue<C: Cargo, R: Wait + Drop> {
     /// A standard or a priority queue.
     Listed(Entries<C>),
+    /// A sorted queue.
+    Sorted(Box<Held<C, Sorted<C>, R>>),
+    /// A last-value queue.
+    LastValue(Box<Held<C, LastValue<C>, R>>),
 }
 
 /// A pass of a standard or a priority queue.
@@ -25,9 +34,11 @@ pub struct ListedPass {
 pub enum AnyPass {
     /// Of a standard or a priority queue.
     Listed(ListedPass),
+    /// Of a sorted or a last-value queue.
+    Held(HeldPass),
 }
 
-impl<C: Cargo + Sync> SharedQueue<C> for AnyQueue<C> {
+impl<C: Cargo + Sync, R: Wait + Send + Sync + Drop> SharedQueue<C> for AnyQueue<C, R> {
     ghost use Rattle.std.specs.Prelude.{ℕ};
     ghost use mathlib.Core.List.{Mem};
     ghost use Rattle.acts_core.specs.Asked.{HasDequeued};
@@ -50,6 +61,15 @@ impl<C: Cargo + Sync> SharedQueue<C> for AnyQueue<C> {
         match self {
             AnyQueue::Listed(entries) => match pass {
                 AnyPass::Listed(listed) => listed.depth(entries),
+                AnyPass::Held(_) => unreachable!(),
+            },
+            AnyQueue::Sorted(held) => match pass {
+                AnyPass::Held(pass) => held.depth(pass),
+                AnyPass::Listed(_) => unreachable!(),
+            },
+            AnyQueue::LastValue(held) => match pass {
+                AnyPass::Held(pass) => held.depth(pass),
+                AnyPass::Listed(_) => unreachable!(),
             },
         }
     }
@@ -58,6 +78,15 @@ impl<C: Cargo + Sync> SharedQueue<C> for AnyQueue<C> {
         match self {
             AnyQueue::Listed(entries) => match pass {
                 AnyPass::Listed(listed) => listed.reserve(entries, size),
+                AnyPass::Held(_) => unreachable!(),
+            },
+            AnyQueue::Sorted(held) => match pass {
+                AnyPass::Held(pass) => held.reserve(pass, size),
+                AnyPass::Listed(_) => unreachable!(),
+            },
+            AnyQueue::LastValue(held) => match pass {
+                AnyPass::Held(pass) => held.reserve(pass, size),
+                AnyPass::Listed(_) => unreachable!(),
             },
         }
     }
@@ -66,6 +95,15 @@ impl<C: Cargo + Sync> SharedQueue<C> for AnyQueue<C> {
         match self {
             AnyQueue::Listed(entries) => match pass {
                 AnyPass::Listed(listed) => listed.give_back(entries, size),
+                AnyPass::Held(_) => unreachable!(),
+            },
+            AnyQueue::Sorted(held) => match pass {
+                AnyPass::Held(pass) => held.give_back(pass, size),
+                AnyPass::Listed(_) => unreachable!(),
+            },
+            AnyQueue::LastValue(held) => match pass {
+                AnyPass::Held(pass) => held.give_back(pass, size),
+                AnyPass::Listed(_) => unreachable!(),
             },
         }
     }
@@ -74,6 +112,15 @@ impl<C: Cargo + Sync> SharedQueue<C> for AnyQueue<C> {
         match self {
             AnyQueue::Listed(entries) => match pass {
                 AnyPass::Listed(listed) => listed.put(entries, &slip, cargo),
+                AnyPass::Held(_) => unreachable!(),
+            },
+            AnyQueue::Sorted(held) => match pass {
+                AnyPass::Held(pass) => held.put(pass, slip, cargo),
+                AnyPass::Listed(_) => unreachable!(),
+            },
+            AnyQueue::LastValue(held) => match pass {
+                AnyPass::Held(pass) => held.put(pass, slip, cargo),
+                AnyPass::Listed(_) => unreachable!(),
             },
         }
     }
@@ -89,6 +136,15 @@ impl<C: Cargo + Sync> SharedQueue<C> for AnyQueue<C> {
         match self {
             AnyQueue::Listed(entries) => match pass {
                 AnyPass::Listed(listed) => listed.next(entries, consumer),
+                AnyPass::Held(_) => unreachable!(),
+            },
+            AnyQueue::Sorted(held) => match pass {
+                AnyPass::Held(pass) => held.next(pass, consumer),
+                AnyPass::Listed(_) => unreachable!(),
+            },
+            AnyQueue::LastValue(held) => match pass {
+                AnyPass::Held(pass) => held.next(pass, consumer),
+                AnyPass::Listed(_) => unreachable!(),
             },
         }
     }
@@ -97,6 +153,15 @@ impl<C: Cargo + Sync> SharedQueue<C> for AnyQueue<C> {
         match self {
             AnyQueue::Listed(entries) => match pass {
                 AnyPass::Listed(listed) => listed.oldest(entries),
+                AnyPass::Held(_) => unreachable!(),
+            },
+            AnyQueue::Sorted(held) => match pass {
+                AnyPass::Held(pass) => held.oldest(pass),
+                AnyPass::Listed(_) => unreachable!(),
+            },
+            AnyQueue::LastValue(held) => match pass {
+                AnyPass::Held(pass) => held.oldest(pass),
+                AnyPass::Listed(_) => unreachable!(),
             },
         }
     }
@@ -105,6 +170,15 @@ impl<C: Cargo + Sync> SharedQueue<C> for AnyQueue<C> {
         match self {
             AnyQueue::Listed(entries) => match pass {
                 AnyPass::Listed(listed) => listed.find(entries, id),
+                AnyPass::Held(_) => unreachable!(),
+            },
+            AnyQueue::Sorted(held) => match pass {
+                AnyPass::Held(pass) => held.find(pass, id),
+                AnyPass::Listed(_) => unreachable!(),
+            },
+            AnyQueue::LastValue(held) => match pass {
+                AnyPass::Held(pass) => held.find(pass, id),
+                AnyPass::Listed(_) => unreachable!(),
             },
         }
     }
@@ -113,6 +187,15 @@ impl<C: Cargo + Sync> SharedQueue<C> for AnyQueue<C> {
         match self {
             AnyQueue::Listed(entries) => match pass {
                 AnyPass::Listed(listed) => listed.lock(entries, row),
+                AnyPass::Held(_) => unreachable!(),
+            },
+            AnyQueue::Sorted(held) => match pass {
+                AnyPass::Held(pass) => held.lock(pass, row),
+                AnyPass::Listed(_) => unreachable!(),
+            },
+            AnyQueue::LastValue(held) => match pass {
+                AnyPass::Held(pass) => held.lock(pass, row),
+                AnyPass::Listed(_) => unreachable!(),
             },
         }
     }
@@ -121,6 +204,15 @@ impl<C: Cargo + Sync> SharedQueue<C> for AnyQueue<C> {
         match self {
             AnyQueue::Listed(entries) => match pass {
                 AnyPass::Listed(listed) => listed.unlock(entries, row, cargo),
+                AnyPass::Held(_) => unreachable!(),
+            },
+            AnyQueue::Sorted(held) => match pass {
+                AnyPass::Held(pass) => held.unlock(pass, row, cargo),
+                AnyPass::Listed(_) => unreachable!(),
+            },
+            AnyQueue::LastValue(held) => match pass {
+                AnyPass::Held(pass) => held.unlock(pass, row, cargo),
+                AnyPass::Listed(_) => unreachable!(),
             },
         }
     }
@@ -132,6 +224,15 @@ impl<C: Cargo + Sync> SharedQueue<C> for AnyQueue<C> {
                     listed.release(entries, row, cargo);
                     Releasing::Released
                 }
+                AnyPass::Held(_) => unreachable!(),
+            },
+            AnyQueue::Sorted(held) => match pass {
+                AnyPass::Held(pass) => held.release(pass, row, cargo),
+                AnyPass::Listed(_) => unreachable!(),
+            },
+            AnyQueue::LastValue(held) => match pass {
+                AnyPass::Held(pass) => held.release(pass, row, cargo),
+                AnyPass::Listed(_) => unreachable!(),
             },
         }
     }
@@ -140,6 +241,15 @@ impl<C: Cargo + Sync> SharedQueue<C> for AnyQueue<C> {
         match self {
             AnyQueue::Listed(entries) => match pass {
                 AnyPass::Listed(listed) => listed.steal(entries, row),
+                AnyPass::Held(_) => unreachable!(),
+            },
+            AnyQueue::Sorted(held) => match pass {
+                AnyPass::Held(pass) => held.steal(pass, row),
+                AnyPass::Listed(_) => unreachable!(),
+            },
+            AnyQueue::LastValue(held) => match pass {
+                AnyPass::Held(pass) => held.steal(pass, row),
+                AnyPass::Listed(_) => unreachable!(),
             },
         }
     }
@@ -148,6 +258,15 @@ impl<C: Cargo + Sync> SharedQueue<C> for AnyQueue<C> {
         match self {
             AnyQueue::Listed(entries) => match pass {
                 AnyPass::Listed(listed) => listed.dequeue(entries, row),
+                AnyPass::Held(_) => unreachable!(),
+            },
+            AnyQueue::Sorted(held) => match pass {
+                AnyPass::Held(pass) => held.dequeue(pass, row),
+                AnyPass::Listed(_) => unreachable!(),
+            },
+            AnyQueue::LastValue(held) => match pass {
+                AnyPass::Held(pass) => held.dequeue(pass, row),
+                AnyPass::Listed(_) => unreachable!(),
             },
         }
     }
@@ -163,6 +282,15 @@ impl<C: Cargo + Sync> SharedQueue<C> for AnyQueue<C> {
         match self {
             AnyQueue::Listed(entries) => match pass {
                 AnyPass::Listed(listed) => listed.delete(entries, row),
+                AnyPass::Held(_) => unreachable!(),
+            },
+            AnyQueue::Sorted(held) => match pass {
+                AnyPass::Held(pass) => held.delete(pass, row),
+                AnyPass::Listed(_) => unreachable!(),
+            },
+            AnyQueue::LastValue(held) => match pass {
+                AnyPass::Held(pass) => held.delete(pass, row),
+                AnyPass::Listed(_) => unreachable!(),
             },
         }
     }

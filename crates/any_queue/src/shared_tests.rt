@@ -14,6 +14,7 @@ use byte_lists::Bytes;
 use defs_read::{ConsumerDef, QueueDef, QueueKind};
 use queue_model::Slip;
 use std::alloc::{AllocError, Global};
+use std::sync::Wait;
 use std::test::Fail;
 use std::thread::{Threads, join};
 
@@ -35,11 +36,18 @@ pub(crate) struct Taken {
 pub(crate) fn standard(alloc: Global) -> Result<QueueDef, AllocError>
     ensures { IfOk result (λ d. (d.kind ≡ kinds.Standard) × (vec_len d.consumers ≡ 2)) }
 {
+    of_kind(alloc, QueueKind::Standard)
+}
+
+/// A queue of this kind, of two consumers.
+pub(crate) fn of_kind(alloc: Global, kind: QueueKind) -> Result<QueueDef, AllocError>
+    ensures { IfOk result (λ d. (d.kind ≡ kind) × (vec_len d.consumers ≡ 2)) }
+{
     let first = consumer(alloc, 0);
     let second = consumer(alloc, 1);
     let name = Bytes::from_vec(Vec::new(alloc));
     let consumers = vec![in alloc; first, second]?;
-    Ok(QueueDef::bare(name, QueueKind::Standard, consumers))
+    Ok(QueueDef::bare(name, kind, consumers))
 }
 
 fn consumer(alloc: Global, number: u32) -> ConsumerDef {
@@ -71,7 +79,11 @@ pub(crate) fn wanted(id: u64) -> (Slip, Empty)
 }
 
 /// Puts an entry of this id, in place of a reserved one.
-pub(crate) fn put_one(queue: &AnyQueue<Empty>, pass: &mut AnyPass, id: u64) -> Placed<Empty>
+pub(crate) fn put_one<W: Wait + Send + Sync + Drop>(
+    queue: &AnyQueue<Empty, W>,
+    pass: &mut AnyPass,
+    id: u64,
+) -> Placed<Empty>
     requires serves { ServesAny queue.now pass.old }
     requires allowed { 0 < (sight_in pass.old).allowance }
     requires lists { (sight_in pass.old).opening.lists ≡ 1 }
@@ -86,7 +98,11 @@ pub(crate) fn put_one(queue: &AnyQueue<Empty>, pass: &mut AnyPass, id: u64) -> P
 }
 
 /// Puts entries of the ids from this one on.
-pub(crate) fn put_all(queue: &AnyQueue<Empty>, pass: AnyPass, first: u64) -> AnyPass
+pub(crate) fn put_all<W: Wait + Send + Sync + Drop>(
+    queue: &AnyQueue<Empty, W>,
+    pass: AnyPass,
+    first: u64,
+) -> AnyPass
     requires serves { ServesAny queue.now pass }
     requires allowed { PUTS ≤ (sight_in pass).allowance }
     requires lists { (sight_in pass).opening.lists ≡ 1 }
@@ -101,7 +117,11 @@ pub(crate) fn put_all(queue: &AnyQueue<Empty>, pass: AnyPass, first: u64) -> Any
     pass
 }
 
-pub(crate) fn take_one(queue: &AnyQueue<Empty>, pass: &mut AnyPass, consumer: u32) -> Option<u64>
+pub(crate) fn take_one<W: Wait + Send + Sync + Drop>(
+    queue: &AnyQueue<Empty, W>,
+    pass: &mut AnyPass,
+    consumer: u32,
+) -> Option<u64>
     requires serves { ServesAny queue.now pass.old }
     requires consumer { Mem consumer (sight_in pass.old).consumers }
     ensures serves { ServesAny queue.now pass.new }
@@ -112,7 +132,11 @@ pub(crate) fn take_one(queue: &AnyQueue<Empty>, pass: &mut AnyPass, consumer: u3
 }
 
 /// Takes entries for a consumer, as many as there are when it tries.
-fn take_all(queue: &AnyQueue<Empty>, pass: AnyPass, consumer: u32) -> Taken
+fn take_all<W: Wait + Send + Sync + Drop>(
+    queue: &AnyQueue<Empty, W>,
+    pass: AnyPass,
+    consumer: u32,
+) -> Taken
     requires serves { ServesAny queue.now pass }
     requires consumer { Mem consumer (sight_in pass).consumers }
     ensures serves { ServesAny queue.now result.pass }
@@ -131,7 +155,10 @@ fn take_all(queue: &AnyQueue<Empty>, pass: AnyPass, consumer: u32) -> Taken
 }
 
 /// Takes the oldest entry out.
-pub(crate) fn oldest_out(queue: &AnyQueue<Empty>, pass: &mut AnyPass) -> Option<u64>
+pub(crate) fn oldest_out<W: Wait + Send + Sync + Drop>(
+    queue: &AnyQueue<Empty, W>,
+    pass: &mut AnyPass,
+) -> Option<u64>
     requires serves { ServesAny queue.now pass.old }
     ensures serves { ServesAny queue.now pass.new }
     ensures opening { (sight_in pass.new).opening ≡ (sight_in pass.old).opening }
@@ -148,7 +175,7 @@ pub(crate) fn oldest_out(queue: &AnyQueue<Empty>, pass: &mut AnyPass) -> Option<
 }
 
 /// What is left: how many entries, and the sum of 2^id of them.
-fn left(queue: &AnyQueue<Empty>, pass: &mut AnyPass) -> (u64, u64)
+fn left<W: Wait + Send + Sync + Drop>(queue: &AnyQueue<Empty, W>, pass: &mut AnyPass) -> (u64, u64)
     requires serves { ServesAny queue.now pass.old }
     ensures serves { ServesAny queue.now pass.new }
 {
@@ -164,9 +191,9 @@ fn left(queue: &AnyQueue<Empty>, pass: &mut AnyPass) -> (u64, u64)
 }
 
 /// Two threads put, entries of the ids from this one on.
-pub(crate) fn both_put<R: Threads + Sync>(
+pub(crate) fn both_put<R: Threads + Sync, W: Wait + Send + Sync + Drop>(
     rt: &R,
-    queue: &AnyQueue<Empty>,
+    queue: &AnyQueue<Empty, W>,
     one: AnyPass,
     two: AnyPass,
     first: u64,
@@ -189,9 +216,9 @@ pub(crate) fn both_put<R: Threads + Sync>(
 }
 
 /// Two threads take.
-fn both_take<R: Threads + Sync>(
+fn both_take<R: Threads + Sync, W: Wait + Send + Sync + Drop>(
     rt: &R,
-    queue: &AnyQueue<Empty>,
+    queue: &AnyQueue<Empty, W>,
     one: AnyPass,
     two: AnyPass,
 ) -> (Taken, Taken)
@@ -206,7 +233,10 @@ fn both_take<R: Threads + Sync>(
 }
 
 /// The pass of a thread that puts.
-pub(crate) fn putter(queue: &AnyQueue<Empty>, boss: &mut AnyPass) -> AnyPass
+pub(crate) fn putter<W: Wait + Send + Sync + Drop>(
+    queue: &AnyQueue<Empty, W>,
+    boss: &mut AnyPass,
+) -> AnyPass
     requires serves { ServesAny queue.now boss.old }
     requires may { MayPart (sight_in boss.old) [] PUTS }
     requires lists { (sight_in boss.old).opening.lists ≡ 1 }
@@ -224,7 +254,11 @@ pub(crate) fn putter(queue: &AnyQueue<Empty>, boss: &mut AnyPass) -> AnyPass
 }
 
 /// The pass of a thread that takes.
-fn taker(queue: &AnyQueue<Empty>, boss: &mut AnyPass, consumer: u32) -> AnyPass
+fn taker<W: Wait + Send + Sync + Drop>(
+    queue: &AnyQueue<Empty, W>,
+    boss: &mut AnyPass,
+    consumer: u32,
+) -> AnyPass
     requires serves { ServesAny queue.now boss.old }
     requires may { MayPart (sight_in boss.old) (consumer ∷ []) 0 }
     ensures boss { ServesAny queue.now boss.new }
@@ -243,7 +277,7 @@ fn taker(queue: &AnyQueue<Empty>, boss: &mut AnyPass, consumer: u32) -> AnyPass
 fn two_threads_take_what_two_put(rt: HostRuntime) -> Result<(), Fail> {
     let alloc = rt.alloc();
     let def = standard(alloc)?;
-    let (queue, mut boss) = AnyQueue::make(alloc, &def, 64, Vec::new(alloc))?;
+    let (queue, mut boss) = AnyQueue::make(rt, alloc, &def, 64, Vec::new(alloc))?;
     let one = putter(&queue, &mut boss);
     let two = putter(&queue, &mut boss);
     let three = taker(&queue, &mut boss, 0);
@@ -268,7 +302,10 @@ fn two_threads_take_what_two_put(rt: HostRuntime) -> Result<(), Fail> {
 }
 
 /// Holds the oldest entry and leaves it; answers its row.
-pub(crate) fn hold_and_leave(queue: &AnyQueue<Empty>, pass: &mut AnyPass) -> Option<u64>
+pub(crate) fn hold_and_leave<W: Wait + Send + Sync + Drop>(
+    queue: &AnyQueue<Empty, W>,
+    pass: &mut AnyPass,
+) -> Option<u64>
     requires serves { ServesAny queue.now pass.old }
     ensures serves { ServesAny queue.now pass.new }
     ensures left { IfSome result (λ row.
@@ -285,7 +322,11 @@ pub(crate) fn hold_and_leave(queue: &AnyQueue<Empty>, pass: &mut AnyPass) -> Opt
 }
 
 /// Steals the entry of this id, where there is one, and takes it out; answers whether somebody had left it.
-pub(crate) fn steal_out(queue: &AnyQueue<Empty>, pass: &mut AnyPass, id: u64) -> Option<bool>
+pub(crate) fn steal_out<W: Wait + Send + Sync + Drop>(
+    queue: &AnyQueue<Empty, W>,
+    pass: &mut AnyPass,
+    id: u64,
+) -> Option<bool>
     requires serves { ServesAny queue.now pass.old }
     ensures serves { ServesAny queue.now pass.new }
     ensures opening { (sight_in pass.new).opening ≡ (sight_in pass.old).opening }
@@ -304,7 +345,11 @@ pub(crate) fn steal_out(queue: &AnyQueue<Empty>, pass: &mut AnyPass, id: u64) ->
 }
 
 /// Locks a row again that the caller had left, and gives it back; answers whether it was still the caller's.
-pub(crate) fn lock_again(queue: &AnyQueue<Empty>, pass: &mut AnyPass, row: u64) -> bool
+pub(crate) fn lock_again<W: Wait + Send + Sync + Drop>(
+    queue: &AnyQueue<Empty, W>,
+    pass: &mut AnyPass,
+    row: u64,
+) -> bool
     requires serves { ServesAny queue.now pass.old }
     requires left { HasLeft (sight_in pass.old).caller row (sight_in pass.old).seen }
     ensures serves { ServesAny queue.now pass.new }
@@ -322,7 +367,7 @@ fn two_callers_meet_at_one_entry(rt: HostRuntime) -> Result<(), Fail> {
     let alloc = rt.alloc();
     let def = standard(alloc)?;
     let start = vec![in alloc; wanted(7)]?;
-    let (queue, mut boss) = AnyQueue::make(alloc, &def, 2, start)?;
+    let (queue, mut boss) = AnyQueue::make(rt, alloc, &def, 2, start)?;
     let mut other = queue.split(&mut boss, &[], 0);
     assert_eq!(rt; steal_out(&queue, &mut other, 7), Some(false));
     let first = hold_and_leave(&queue, &mut boss);

@@ -1,15 +1,20 @@
 //! Four threads on one queue, and what they leave.
-ghost use Rattle.std.specs.Prelude.{◌≡◌, ◌≤◌};
+ghost use Rattle.std.specs.Prelude.{◌≡◌, ◌≤◌, vec_len};
+ghost use Rattle.defs_read.specs.Allowed.{HasPriorities};
+ghost use Rattle.defs_read.specs.Slips.{lists_of};
 ghost use Rattle.any_queue.specs.Kinds.{sight_in, ServesAny};
 
 use crate::shared_tests::{
-    PUTS, both_put, hold_and_leave, lock_again, oldest_out, put_all, put_one, putter, standard,
-    steal_out,
+    PUTS, both_put, hold_and_leave, lock_again, of_kind, oldest_out, put_all, put_one, putter,
+    standard, steal_out,
 };
 use crate::tests::Empty;
 use crate::{AnyPass, AnyQueue};
 use acts_core::{Placed, SharedQueue};
+use byte_lists::{Bytes, NoMemory};
+use defs_read::{QueueDef, QueueKind};
 use std::alloc::{AllocError, Global};
+use std::sync::Wait;
 use std::test::Fail;
 use std::thread::{Threads, join};
 
@@ -50,7 +55,7 @@ fn sum(one: Tally, two: Tally) -> Tally {
 }
 
 /// Leaves the oldest entry, and locks it again and gives it back, unless it was stolen meanwhile.
-fn leave_and_lock(queue: &AnyQueue<Empty>, pass: &mut AnyPass)
+fn leave_and_lock<W: Wait + Send + Sync + Drop>(queue: &AnyQueue<Empty, W>, pass: &mut AnyPass)
     requires serves { ServesAny queue.now pass.old }
     ensures serves { ServesAny queue.now pass.new }
     ensures opening { (sight_in pass.new).opening ≡ (sight_in pass.old).opening }
@@ -61,7 +66,11 @@ fn leave_and_lock(queue: &AnyQueue<Empty>, pass: &mut AnyPass)
 }
 
 /// Takes the entry of this id out, where somebody had left it, and answers the id.
-fn stolen(queue: &AnyQueue<Empty>, pass: &mut AnyPass, id: u64) -> Option<u64>
+fn stolen<W: Wait + Send + Sync + Drop>(
+    queue: &AnyQueue<Empty, W>,
+    pass: &mut AnyPass,
+    id: u64,
+) -> Option<u64>
     requires serves { ServesAny queue.now pass.old }
     ensures serves { ServesAny queue.now pass.new }
     ensures opening { (sight_in pass.new).opening ≡ (sight_in pass.old).opening }
@@ -74,7 +83,11 @@ fn stolen(queue: &AnyQueue<Empty>, pass: &mut AnyPass, id: u64) -> Option<u64>
 }
 
 /// Leaves one entry and locks it again, leaves another, and takes out one that was left and one that was not.
-fn round(queue: &AnyQueue<Empty>, pass: &mut AnyPass, id: u64) -> Tally
+fn round<W: Wait + Send + Sync + Drop>(
+    queue: &AnyQueue<Empty, W>,
+    pass: &mut AnyPass,
+    id: u64,
+) -> Tally
     requires serves { ServesAny queue.now pass.old }
     ensures serves { ServesAny queue.now pass.new }
     ensures opening { (sight_in pass.new).opening ≡ (sight_in pass.old).opening }
@@ -87,7 +100,11 @@ fn round(queue: &AnyQueue<Empty>, pass: &mut AnyPass, id: u64) -> Tally
 }
 
 /// Puts entries of the ids from this one on, and then makes half as many rounds.
-fn work(queue: &AnyQueue<Empty>, pass: AnyPass, first: u64) -> Worked
+fn work<W: Wait + Send + Sync + Drop>(
+    queue: &AnyQueue<Empty, W>,
+    pass: AnyPass,
+    first: u64,
+) -> Worked
     requires serves { ServesAny queue.now pass }
     requires allowed { PUTS ≤ (sight_in pass).allowance }
     requires lists { (sight_in pass).opening.lists ≡ 1 }
@@ -105,9 +122,9 @@ fn work(queue: &AnyQueue<Empty>, pass: AnyPass, first: u64) -> Worked
 }
 
 /// Two threads work.
-fn both_work<R: Threads + Sync>(
+fn both_work<R: Threads + Sync, W: Wait + Send + Sync + Drop>(
     rt: &R,
-    queue: &AnyQueue<Empty>,
+    queue: &AnyQueue<Empty, W>,
     one: AnyPass,
     two: AnyPass,
     first: u64,
@@ -126,7 +143,7 @@ fn both_work<R: Threads + Sync>(
 }
 
 /// Takes all that is left out.
-fn drain(queue: &AnyQueue<Empty>, pass: &mut AnyPass) -> Tally
+fn drain<W: Wait + Send + Sync + Drop>(queue: &AnyQueue<Empty, W>, pass: &mut AnyPass) -> Tally
     requires serves { ServesAny queue.now pass.old }
     ensures serves { ServesAny queue.now pass.new }
 {
@@ -138,21 +155,38 @@ fn drain(queue: &AnyQueue<Empty>, pass: &mut AnyPass) -> Tally
     tally
 }
 
-/// Each entry is taken out once, by a thread or of what is left; and the depth is that of what is left.
-#[test]
-fn four_threads_lose_and_double_nothing(rt: HostRuntime) -> Result<(), Fail> {
-    let alloc = rt.alloc();
-    let def = standard(alloc)?;
-    let (queue, mut boss) = AnyQueue::make(alloc, &def, ALL, Vec::new(alloc))?;
+/// What came of four threads: how full the queue was told to be, what was left then, what came out in all, and how full
+/// it was told to be in the end.
+#[derive(Drop)]
+struct Outcome {
+    depth: u64,
+    left: u64,
+    all: Tally,
+    end: u64,
+}
+
+/// Four threads work on a queue of one list.
+fn four_work<R: Threads + Wait + Clone + Send + Sync + Drop>(
+    rt: &R,
+    alloc: Global,
+    def: &QueueDef,
+) -> Result<Outcome, NoMemory>
+    requires kind { HasPriorities def.now.kind × (lists_of def.now.kind ≡ 1) }
+    requires consumers { vec_len def.now.consumers ≡ 2 }
+{
+    let Ok(handle) = rt.clone() else {
+        return Err(NoMemory);
+    };
+    let (queue, mut boss) = AnyQueue::make(handle, alloc, def, ALL, Vec::new(alloc))?;
     let one = putter(&queue, &mut boss);
     let two = putter(&queue, &mut boss);
     let three = putter(&queue, &mut boss);
     let four = putter(&queue, &mut boss);
     let shared = &queue;
     let ((one, two), (three, four)) = join(
-        &rt,
-        || both_work(&rt, shared, one, two, 0),
-        || both_work(&rt, shared, three, four, 32),
+        rt,
+        || both_work(rt, shared, one, two, 0),
+        || both_work(rt, shared, three, four, 32),
     );
     let worked = sum(sum(one.tally, two.tally), sum(three.tally, four.tally));
     queue.join(&mut boss, one.pass);
@@ -161,17 +195,55 @@ fn four_threads_lose_and_double_nothing(rt: HostRuntime) -> Result<(), Fail> {
     queue.join(&mut boss, four.pass);
     let depth = queue.depth(&mut boss).entries;
     let left = drain(&queue, &mut boss);
-    assert_eq!(rt; depth, left.count);
-    assert_eq!(rt; sum(worked, left).count, 64);
-    assert_eq!(rt; sum(worked, left).bits, u64::MAX);
-    assert_eq!(rt; queue.depth(&mut boss).entries, 0);
+    Ok(Outcome {
+        depth,
+        left: left.count,
+        all: sum(worked, left),
+        end: queue.depth(&mut boss).entries,
+    })
+}
+
+/// Whether each entry was taken out once, by a thread or of what was left, and the depth was that of what was left.
+fn is_whole(outcome: &Outcome) -> bool {
+    outcome.depth == outcome.left
+        && outcome.all.count == ALL
+        && outcome.all.bits == u64::MAX
+        && outcome.end == 0
+}
+
+/// On a standard queue.
+#[test]
+fn four_threads_lose_and_double_nothing(rt: HostRuntime) -> Result<(), Fail> {
+    let alloc = rt.alloc();
+    let outcome = four_work(&rt, alloc, &standard(alloc)?)?;
+    assert!(rt; is_whole(&outcome));
+    Ok(())
+}
+
+/// On a sorted queue, each behind its lock.
+#[test]
+fn four_threads_share_a_sorted_queue(rt: HostRuntime) -> Result<(), Fail> {
+    let alloc = rt.alloc();
+    let name = Bytes::from_vec(Vec::new(alloc));
+    let outcome = four_work(&rt, alloc, &of_kind(alloc, QueueKind::Sorted(name))?)?;
+    assert!(rt; is_whole(&outcome));
+    Ok(())
+}
+
+/// On a last-value queue whose entries have no key.
+#[test]
+fn four_threads_share_a_last_value_queue(rt: HostRuntime) -> Result<(), Fail> {
+    let alloc = rt.alloc();
+    let name = Bytes::from_vec(Vec::new(alloc));
+    let outcome = four_work(&rt, alloc, &of_kind(alloc, QueueKind::LastValue(name))?)?;
+    assert!(rt; is_whole(&outcome));
     Ok(())
 }
 
 /// Takes all that is available out, the oldest first, and lists the ids.
-fn ids_out(
+fn ids_out<W: Wait + Send + Sync + Drop>(
     alloc: Global,
-    queue: &AnyQueue<Empty>,
+    queue: &AnyQueue<Empty, W>,
     pass: &mut AnyPass,
 ) -> Result<Vec<u64>, AllocError>
     requires serves { ServesAny queue.now pass.old }
@@ -205,7 +277,7 @@ fn has_in_order(ids: &[u64], first: u64) -> bool {
 fn two_threads_put_into_one_list(rt: HostRuntime) -> Result<(), Fail> {
     let alloc = rt.alloc();
     let def = standard(alloc)?;
-    let (queue, mut boss) = AnyQueue::make(alloc, &def, ALL, Vec::new(alloc))?;
+    let (queue, mut boss) = AnyQueue::make(rt, alloc, &def, ALL, Vec::new(alloc))?;
     let one = putter(&queue, &mut boss);
     let two = putter(&queue, &mut boss);
     let (one, two) = both_put(&rt, &queue, one, two, 0);
@@ -222,7 +294,7 @@ fn two_threads_put_into_one_list(rt: HostRuntime) -> Result<(), Fail> {
 fn four_threads_put_into_one_list(rt: HostRuntime) -> Result<(), Fail> {
     let alloc = rt.alloc();
     let def = standard(alloc)?;
-    let (queue, mut boss) = AnyQueue::make(alloc, &def, ALL, Vec::new(alloc))?;
+    let (queue, mut boss) = AnyQueue::make(rt, alloc, &def, ALL, Vec::new(alloc))?;
     let one = putter(&queue, &mut boss);
     let two = putter(&queue, &mut boss);
     let three = putter(&queue, &mut boss);
@@ -249,7 +321,7 @@ fn four_threads_put_into_one_list(rt: HostRuntime) -> Result<(), Fail> {
 fn a_third_put_to_two_rows_is_spent(rt: HostRuntime) -> Result<(), Fail> {
     let alloc = rt.alloc();
     let def = standard(alloc)?;
-    let (queue, mut boss) = AnyQueue::make(alloc, &def, 2, Vec::new(alloc))?;
+    let (queue, mut boss) = AnyQueue::make(rt, alloc, &def, 2, Vec::new(alloc))?;
     let first = put_one(&queue, &mut boss, 5);
     assert!(rt; matches!(first, Placed::At { row: 0, .. }));
     let second = put_one(&queue, &mut boss, 6);

@@ -11,6 +11,7 @@ use byte_lists::Bytes;
 use defs_read::{ConsumerDef, QueueDef, QueueKind};
 use queue_model::Slip;
 use std::alloc::{AllocError, Global};
+use std::sync::Wait;
 use std::test::Fail;
 
 /// A message with no bytes.
@@ -75,7 +76,10 @@ fn three_lists(alloc: Global) -> Result<QueueDef, AllocError>
 }
 
 /// Takes the next entry out for the first consumer.
-fn taken(queue: &AnyQueue<Empty>, pass: &mut AnyPass) -> Option<u64>
+fn taken<W: Wait + Send + Sync + Drop>(
+    queue: &AnyQueue<Empty, W>,
+    pass: &mut AnyPass,
+) -> Option<u64>
     requires serves { ServesAny queue.now pass.old }
     requires consumer { Mem 0 (sight_in pass.old).consumers }
     ensures serves { ServesAny queue.now pass.new }
@@ -90,7 +94,7 @@ fn entries_of_three_lists_come_by_list(rt: HostRuntime) -> Result<(), Fail> {
     let alloc = rt.alloc();
     let def = three_lists(alloc)?;
     let start = vec![in alloc; entry(0, 1), entry(2, 2), entry(1, 3), entry(2, 4)]?;
-    let (queue, mut boss) = AnyQueue::make(alloc, &def, 8, start)?;
+    let (queue, mut boss) = AnyQueue::make(rt, alloc, &def, 8, start)?;
     assert_eq!(rt; taken(&queue, &mut boss), Some(2));
     assert_eq!(rt; taken(&queue, &mut boss), Some(4));
     assert_eq!(rt; taken(&queue, &mut boss), Some(3));
@@ -105,7 +109,7 @@ fn the_oldest_entry_is_of_the_lowest_list(rt: HostRuntime) -> Result<(), Fail> {
     let alloc = rt.alloc();
     let def = three_lists(alloc)?;
     let start = vec![in alloc; entry(2, 1), entry(1, 2), entry(0, 3), entry(0, 4)]?;
-    let (queue, mut boss) = AnyQueue::make(alloc, &def, 8, start)?;
+    let (queue, mut boss) = AnyQueue::make(rt, alloc, &def, 8, start)?;
     let oldest = match queue.oldest(&mut boss) {
         Next::Got { row, cargo } => Some((row, cargo.id)),
         Next::Empty => None,
@@ -122,7 +126,7 @@ fn ample(rt: HostRuntime) -> Result<(), Fail> {
     let alloc = rt.alloc();
     let def = three_lists(alloc)?;
     let start = vec![in alloc; entry(0, 1), entry(2, 2), entry(2, 3)]?;
-    let (queue, mut boss) = AnyQueue::make(alloc, &def, 3, start)?;
+    let (queue, mut boss) = AnyQueue::make(rt, alloc, &def, 3, start)?;
     assert_eq!(rt; queue.find(&mut boss, 3), Some(2));
     Ok(())
 }

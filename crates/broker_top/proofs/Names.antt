@@ -11,7 +11,10 @@ use Rattle.txn_core.specs.declared.parcels.Parcel.{Parcel}
 use Rattle.account_core.specs.Phases.{nothing}
 use Rattle.account_core.specs.Texts.{queue_names}
 use Rattle.phase_core.specs.Phased.{Lefts}
-use Rattle.phase_queues.specs.Left.{AllMayStay, MayStay, ids_left, many_left, row_left, rows_left}
+use Rattle.acts_core.specs.Sight as kinds
+use Rattle.acts_core.specs.Sight.{Kind}
+use Rattle.any_queue.specs.Parting.{StartsApart, kind_of}
+use Rattle.phase_queues.specs.Left.{AllMayStay, MayGoOn, goods_left, ids_left, many_left, row_left, rows_left}
 use Rattle.broker_top.specs.OnePhase.{IsEmpty}
 
 pub names_of : (queues : List QueueDef) → map (λ q. q.name) queues ≡ queue_names (map defined queues)
@@ -36,11 +39,19 @@ rows_none [] (l ∷ lefts) e all = absurd (omega (arith, e))
 rows_none (d ∷ defs) [] e all = absurd (omega (arith, e))
 rows_none (d ∷ defs) (l ∷ lefts) e all = ap₂ (λ (x : List Row) (xs : List (List Row)). x ∷ xs) (ap (map row_left) all.0) (rows_none defs lefts (omega (arith, e)) all.1)
 
+none_apart : (kind : Kind) → StartsApart kind (goods_left [])
+none_apart kinds.Listed = tt
+none_apart kinds.Sorted = tt
+none_apart kinds.LastValue = λ i j less low. absurd (omega (arith, low))
+
 stay_none : (defs : List Defined) (lefts : Lefts) → length lefts ≡ length defs → AreEmpty lefts → AllMayStay defs lefts
 stay_none [] [] e all = tt
 stay_none [] (l ∷ lefts) e all = absurd (omega (arith, e))
 stay_none (d ∷ defs) [] e all = absurd (omega (arith, e))
-stay_none (d ∷ defs) (l ∷ lefts) e all = (subst (AllByRecursion (MayStay d)) (sym all.0) tt, stay_none defs lefts (omega (arith, e)) all.1)
+stay_none (d ∷ defs) (l ∷ lefts) e all = (
+  subst (MayGoOn d) (sym all.0) (record { each = tt; apart = none_apart (kind_of d.kind) }),
+  stay_none defs lefts (omega (arith, e)) all.1,
+)
 
 ids_none : (lefts : Lefts) (q : ℕ) (test : ℕ → Bool) → AreEmpty lefts → ids_left q test lefts ≡ 0
 ids_none [] q test all = refl

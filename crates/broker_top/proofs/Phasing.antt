@@ -7,11 +7,8 @@ use Rattle.std.proofs.Math.Seq.{take-append_seam}
 use Rattle.queue_model.specs.declared.queues.Policy.{Policy}
 use Rattle.queue_model.specs.declared.queues.Policy.TheVariants as policy
 use Rattle.queue_model.specs.declared.rows.Row.{Row}
-use Rattle.any_queue.specs.Parting.{IsOfLists}
 use Rattle.defs_read.specs.Allowed.{HasPriorities, IsAllowed}
 use Rattle.defs_read.specs.Defined.{Defined}
-use Rattle.defs_read.specs.declared.defs.QueueKind.{QueueKind}
-use Rattle.defs_read.specs.declared.defs.QueueKind.TheVariants.{Standard, Priority, Sorted, LastValue}
 use Rattle.outside_io.specs.Told.{Adds}
 use Rattle.outside_io.proofs.Says.{adds_then}
 use Rattle.script_read.specs.Allowed.{IsAllowedPhase, all_ops, ops_in}
@@ -33,7 +30,7 @@ use Rattle.account_core.proofs.Following.{phases_append, text_append}
 use Rattle.phase_queues.specs.Left.{AllMayStay, rows_left}
 use Rattle.phase_core.specs.Phased.{FewEntries, IdsOnce, Lefts}
 use Rattle.phase_actors.specs.Cast.{HasServedOps}
-use Rattle.broker_top.specs.Built.{is_built_kind, is_built_line, is_built_policy, is_built_queue}
+use Rattle.broker_top.specs.Built.{is_built_line, is_built_policy, is_built_queue}
 use Rattle.broker_top.specs.Job.{IsRunnable, Script}
 use Rattle.broker_top.specs.OnePhase.{IsEmpty, Leaves, MayPlay}
 use Rattle.broker_top.specs.Phases.{RanTo}
@@ -41,19 +38,6 @@ use Rattle.broker_top.specs.Puts.{all_puts, is_put}
 use Rattle.command_line.proofs.Both.{both_first, both_second}
 
 -- What is built
-
-kind_built : (kind : QueueKind) → is_built_kind kind ≡ true → HasPriorities kind → IsOfLists kind
-kind_built Standard e h = tt
-kind_built (Priority n) e h = h
-kind_built (Sorted key) e h = absurd (cc)
-kind_built (LastValue key) e h = absurd (cc)
-
-lists_built : (defs : List Defined) → list_all is_built_queue defs ≡ true → All IsAllowed defs → AllByRecursion (λ def. IsOfLists def.kind) defs
-lists_built [] e all = tt
-lists_built (d ∷ defs) e all = (
-  kind_built d.kind (both_first (is_built_kind d.kind) (is_built_policy d.limits.policy) (both_first (is_built_queue d) (list_all is_built_queue defs) e)) (all 0 d (omega arith)).slips.priorities,
-  lists_built defs (both_second (is_built_queue d) (list_all is_built_queue defs) e) (λ k x low. all (suc k) x (omega (arith, low))),
-)
 
 policy_built : (p : Policy) → is_built_policy p ≡ true → IsServedPolicy p
 policy_built policy.None e = tt
@@ -67,7 +51,7 @@ policies_built [] e q def at = absurd (cc)
 policies_built (d ∷ defs) e zero def at =
     let same : d ≡ def = (cc) in
     subst (λ (x : Defined). IsServedPolicy x.limits.policy) same
-    (policy_built d.limits.policy (both_second (is_built_kind d.kind) (is_built_policy d.limits.policy) (both_first (is_built_queue d) (list_all is_built_queue defs) e)))
+    (policy_built d.limits.policy (both_first (is_built_queue d) (list_all is_built_queue defs) e))
 policies_built (d ∷ defs) e (suc q) def at = policies_built defs (both_second (is_built_queue d) (list_all is_built_queue defs) e) q def at
 
 line_built : (w : What) → is_built_line w ≡ true → IsServed w
@@ -201,7 +185,6 @@ module _ (script : Script) (seats mid : Seats) (w w1 : Option (List ℕ)) (lefts
   pub may_play : IsRunnable script → MayPlay script.defs lefts p
   may_play runs = record {
     allowed = runs.defs;
-    lists = lists_built script.defs runs.queues runs.defs.each;
     policies = policies_built script.defs runs.queues;
     phase = g.each.0;
     served = g.served.0;

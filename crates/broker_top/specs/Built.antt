@@ -1,19 +1,10 @@
 -- what is built; the rest is refused until it is
-use Rattle.std.specs.Prelude.{Bool, true, false, ◌&&◌}
+use Rattle.std.specs.Prelude.{Bool, true, false}
 use Rattle.queue_model.specs.declared.queues.Policy.{Policy}
 use Rattle.queue_model.specs.declared.queues.Policy.TheVariants as policy
 use Rattle.defs_read.specs.Defined.{Defined}
-use Rattle.defs_read.specs.declared.defs.QueueKind.{QueueKind}
-use Rattle.defs_read.specs.declared.defs.QueueKind.TheVariants.{Standard, Priority, Sorted, LastValue}
 use Rattle.script_read.specs.declared.lines.What.{What}
 use Rattle.script_read.specs.declared.lines.What.TheVariants.{Put, Take, Close, Ack, Release, Lock, Unlock, Steal, Begin, Commit, Rollback}
-
--- the kinds of queue that are built: standard and priority queues
-abbrev pub is_built_kind : QueueKind → Bool
-is_built_kind Standard = true
-is_built_kind (Priority n) = true
-is_built_kind (Sorted key) = false
-is_built_kind (LastValue key) = false
 
 -- the policies that are built: all but that which keeps bodies on disk alone
 abbrev pub is_built_policy : Policy → Bool
@@ -25,7 +16,7 @@ is_built_policy policy.Reject = true
 
 -- the queue is built
 abbrev pub is_built_queue : Defined → Bool
-is_built_queue q = is_built_kind q.kind && is_built_policy q.limits.policy
+is_built_queue q = is_built_policy q.limits.policy
 
 -- the lines that are built: all but those of transactions
 abbrev pub is_built_line : What → Bool

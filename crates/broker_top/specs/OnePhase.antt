@@ -3,7 +3,6 @@ use Rattle.std.specs.Prelude.{◌≡◌, ℕ, ◌+◌, ◌≤◌, Bool, false, L
 use Rattle.std.specs.List.{AllByRecursion}
 use Rattle.std.specs.declared.alloc.Global.{Global}
 use Rattle.acts_core.specs.declared.cargoes.RestEntry.{RestEntry}
-use Rattle.any_queue.specs.Parting.{IsOfLists}
 use Rattle.defs_read.specs.Allowed.{AreAllowed}
 use Rattle.defs_read.specs.Defined.{Defined}
 use Rattle.outside_io.specs.Told.{Adds}
@@ -32,7 +31,6 @@ pub record IsEmpty (defs : List Defined) (lefts : Lefts) : Type 0 where
 -- these actors may play a phase over queues that open with these entries
 pub record MayPlay (defs : List Defined) (lefts : Lefts) (actors : Actors) : Type 0 where
   pub allowed : AreAllowed defs
-  pub lists : AllByRecursion (λ def. IsOfLists def.kind) defs
   pub policies : ServesPolicies defs
   pub phase : IsAllowedPhase defs false actors
   pub served : AllByRecursion HasServedOps actors

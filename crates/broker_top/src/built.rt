@@ -4,22 +4,12 @@ ghost use Rattle.std.specs.List.{list_all};
 ghost use Rattle.defs_read.specs.Defined.{defined, queues_in};
 ghost use Rattle.script_read.specs.Allowed.{all_ops, ops_in};
 ghost use Rattle.script_read.specs.Phases.{actors_in, phases_in};
-ghost use Rattle.broker_top.specs.Built.{is_built_kind, is_built_line, is_built_policy, is_built_queue};
+ghost use Rattle.broker_top.specs.Built.{is_built_line, is_built_policy, is_built_queue};
 ghost use Rattle.broker_top.specs.Sooner.{first_line, sooner};
 
-use defs_read::{Defs, QueueDef, QueueKind};
+use defs_read::{Defs, QueueDef};
 use queue_model::Policy;
 use script_read::{Op, Phase, Script, What};
-
-/// Whether queues of this kind are built.
-fn is_built_kind(kind: &QueueKind) -> bool
-    ensures { result ≡ is_built_kind kind.now }
-{
-    match kind {
-        QueueKind::Standard | QueueKind::Priority(_) => true,
-        QueueKind::Sorted(_) | QueueKind::LastValue(_) => false,
-    }
-}
 
 /// Whether the policy is built.
 fn is_built_policy(policy: Policy) -> bool
@@ -35,7 +25,7 @@ fn is_built_policy(policy: Policy) -> bool
 fn is_built_queue(queue: &QueueDef) -> bool
     ensures { result ≡ is_built_queue (defined queue.now) }
 {
-    is_built_kind(&queue.kind) && is_built_policy(queue.limits.policy)
+    is_built_policy(queue.limits.policy)
 }
 
 /// Whether these queues are built.

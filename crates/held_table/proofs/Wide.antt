@@ -117,7 +117,7 @@ acts_fit lists consumers call a fits = tt
 abbrev hands_narrow : (q : Queue) (r : ℕ) (load : Load) → HandsOut (wide q) r load → HandsOut q r load
 hands_narrow q r load m = record { row = m.row; found = m.found; same = m.same }
 
-precedes_narrow : (o : Order) (q : Queue) (x y : Row) → Precedes o (wide q) x y → Precedes o q x y
+pub precedes_narrow : (o : Order) (q : Queue) (x y : Row) → Precedes o (wide q) x y → Precedes o q x y
 precedes_narrow ByList q x y p = p
 precedes_narrow ByKey q x y p = p
 precedes_narrow ByArrival q x y p = p
@@ -131,10 +131,10 @@ first_narrow : (q : Queue) (Pass : Row → Type 0) (Before After : Row → Row �
 first_narrow q Pass Before After r l load so m =
     record { hands = hands_narrow q r load m.hands; list = m.list; passes = m.passes; first = λ y is pass off. so m.hands.row y (m.first y is pass off) }
 
-outdated_narrow : (q : Queue) (r : ℕ) → IsOutdatedIn (wide q) r → IsOutdatedIn q r
+pub outdated_narrow : (q : Queue) (r : ℕ) → IsOutdatedIn (wide q) r → IsOutdatedIn q r
 outdated_narrow q r m = record { row = m.row; found = m.found; later = m.later; there = m.there; key = m.key; some = m.some; place = m.place }
 
-outdated_wide : (q : Queue) (r : ℕ) → IsOutdatedIn q r → IsOutdatedIn (wide q) r
+pub outdated_wide : (q : Queue) (r : ℕ) → IsOutdatedIn q r → IsOutdatedIn (wide q) r
 outdated_wide q r m = record { row = m.row; found = m.found; later = m.later; there = m.there; key = m.key; some = m.some; place = m.place }
 
 -- an answer tells the same of both

@@ -49,8 +49,8 @@ impl<C: Freight> LastValue<C> {
         }
     }
 
-    // The spare becomes so many rows. Where there is no memory for them, nothing changes.
-    fn grow(&mut self, rows: u64) -> Result<(), AllocError>
+    /// The spare becomes so many rows. Where there is no memory for them, nothing changes.
+    pub fn grow(&mut self, rows: u64) -> Result<(), AllocError>
         requires { self.old.spare ≤ rows }
         ensures ok { OnOk result (self.new ≡ record self.old { spare = rows }) }
         ensures err { OnErr result (self.new ≡ self.old) }

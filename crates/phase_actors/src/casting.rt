@@ -7,7 +7,6 @@ ghost use Rattle.defs_read.specs.Defined.{queues_in};
 ghost use Rattle.script_read.specs.Allowed.{IsAllowedPhase, IsOpOf, ops_in};
 ghost use Rattle.script_read.specs.Phases.{actors_in};
 ghost use Rattle.any_queue.specs.Kinds.{ServesAny, build_in, sight_in};
-ghost use Rattle.any_queue.specs.Parting.{IsOfLists};
 ghost use Rattle.workers_core.specs.Drops.{all_rows};
 ghost use Rattle.workers_core.specs.Made.{IsServed};
 ghost use Rattle.workers_core.specs.Phases.{MayDrop, MayRun, lines_of};
@@ -24,6 +23,7 @@ use byte_lists::{Bytes, NoMemory};
 use defs_read::Defs;
 use script_read::{Op, Phase};
 use std::alloc::Global;
+use std::sync::Wait;
 use target_core::Roster;
 use txn_core::Parcel;
 use workers_core::{Actor, Rooms, Unmade};
@@ -33,17 +33,16 @@ use workers_core::{Actor, Rooms, Unmade};
 /// targets of the consumers that its lines name, where they stand, to it; and takes all memory that its lines can need.
 /// The queues have room for no more than this number of rows. Refuses only for want of memory; then the roster has its
 /// targets again.
-pub fn make_actors(
+pub fn make_actors<R: Wait + Send + Sync + Drop>(
     alloc: Global,
     defs: &Defs,
     phase: Phase,
     rows: u64,
-    queues: &[AnyQueue<Parcel>],
+    queues: &[AnyQueue<Parcel, R>],
     bosses: &mut Vec<AnyPass>,
     roster: &mut Roster,
-) -> Result<Vec<Actor<AnyQueue<Parcel>>>, NoMemory>
+) -> Result<Vec<Actor<AnyQueue<Parcel, R>>>, NoMemory>
     requires allowed { AreAllowed (queues_in defs.now) }
-    requires lists { AllByRecursion (λ d. IsOfLists d.kind) (queues_in defs.now) }
     requires phase { IsAllowedPhase (queues_in defs.now) false (actors_in phase) }
     requires served { AllByRecursion HasServedOps (actors_in phase) }
     requires queues { length queues.now ≡ length (queues_in defs.now) }
@@ -97,19 +96,18 @@ pub fn make_actors(
 }
 
 /// Makes the actor of this name and these lines, the caller of this number.
-fn make_actor(
+fn make_actor<R: Wait + Send + Sync + Drop>(
     alloc: Global,
     defs: &Defs,
     name: Bytes,
     number: u64,
     ops: Vec<Op>,
     rows: u64,
-    queues: &[AnyQueue<Parcel>],
+    queues: &[AnyQueue<Parcel, R>],
     bosses: &mut Vec<AnyPass>,
     roster: &mut Roster,
-) -> Result<Actor<AnyQueue<Parcel>>, NoMemory>
+) -> Result<Actor<AnyQueue<Parcel, R>>, NoMemory>
     requires allowed { AreAllowed (queues_in defs.now) }
-    requires lists { AllByRecursion (λ d. IsOfLists d.kind) (queues_in defs.now) }
     requires own { AllByRecursion (IsOpOf (queues_in defs.now) false name) ops.items }
     requires served { AllByRecursion (λ op. IsServed op.what) ops.items }
     requires number { number < 64 }

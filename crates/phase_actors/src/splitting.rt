@@ -14,6 +14,7 @@ use byte_lists::{Bytes, NoMemory};
 use defs_read::{Defs, QueueDef};
 use script_read::{Op, What};
 use std::alloc::Global;
+use std::sync::Wait;
 use txn_core::Parcel;
 
 /// Whether a line puts to the queue of this number.
@@ -65,13 +66,13 @@ fn places_of(alloc: Global, name: &Bytes, def: &QueueDef) -> Result<Vec<u32>, No
 }
 
 /// Splits an actor's pass of one queue off its boss's.
-fn split_one(
+fn split_one<R: Wait + Send + Sync + Drop>(
     alloc: Global,
     name: &Bytes,
     ops: &[Op],
     number: u32,
     def: &QueueDef,
-    queue: &AnyQueue<Parcel>,
+    queue: &AnyQueue<Parcel, R>,
     boss: &mut AnyPass,
 ) -> Result<AnyPass, NoMemory>
     requires few { vec_len def.now.consumers ≤ 64 }
@@ -89,12 +90,12 @@ fn split_one(
 
 /// Splits an actor's pass of each queue off the boss's. Refuses only for want of memory; then some passes may be split
 /// off and lost.
-pub(crate) fn split_all(
+pub(crate) fn split_all<R: Wait + Send + Sync + Drop>(
     alloc: Global,
     defs: &Defs,
     name: &Bytes,
     ops: &[Op],
-    queues: &[AnyQueue<Parcel>],
+    queues: &[AnyQueue<Parcel, R>],
     bosses: &mut Vec<AnyPass>,
 ) -> Result<Vec<AnyPass>, NoMemory>
     requires allowed { AreAllowed (queues_in defs.now) }

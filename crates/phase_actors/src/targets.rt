@@ -7,6 +7,7 @@ ghost use Rattle.phase_actors.specs.Targets.{MovesOne, MovesNamed, NamesWithin, 
 
 use any_queue::AnyQueue;
 use script_read::{Op, What};
+use std::sync::Wait;
 use target_core::{CONSUMERS, Roster};
 use txn_core::Parcel;
 use workers_core::Actor;
@@ -72,7 +73,10 @@ pub fn return_targets(from: &mut Roster, to: &mut Roster)
 }
 
 /// Moves the targets of actors that will not run back to the roster.
-pub(crate) fn give_back(actors: Vec<Actor<AnyQueue<Parcel>>>, roster: &mut Roster)
+pub(crate) fn give_back<R: Wait + Send + Sync + Drop>(
+    actors: Vec<Actor<AnyQueue<Parcel, R>>>,
+    roster: &mut Roster,
+)
     ensures { (c : ℕ)
         → seat_at (map (option_map (λ b. seat (b.vtable, b.value))) roster.new.slots) c
         ≡ all_back c (seat_at (map (option_map (λ b. seat (b.vtable, b.value))) roster.old.slots) c)

@@ -39,7 +39,7 @@ use Rattle.phase_core.proofs.Places.{same_maps, there}
 use Rattle.phase_core.proofs.Queues.{OpensAt, open_later, opens_at, played_at, played_by}
 
 -- A phase whose actors have played, over queues that opened with these entries.
-module _ (defs : List Defined) (lefts : Lefts) (actors : Actors) (owns : List Seats) (queues : List (AnyQueue Parcel)) (opened begun lasts : List AnyPass) (left back : Seats) (logs : List Log)
+module _ {R : Type 0} (defs : List Defined) (lefts : Lefts) (actors : Actors) (owns : List Seats) (queues : List (AnyQueue Parcel R)) (opened begun lasts : List AnyPass) (left back : Seats) (logs : List Log)
     (as_many : length lasts ≡ length queues)
     (opens : AllOpen defs (rows_left lefts) (all_played queues opened))
     (split : map (λ s. s.opening) (map sight_in begun) ≡ map (λ s. s.opening) (map sight_in opened))
@@ -58,7 +58,7 @@ module _ (defs : List Defined) (lefts : Lefts) (actors : Actors) (owns : List Se
   opens_now = open_later defs (rows_left lefts) queues opened lasts openings opens
 
   -- what is known of queue q
-  module _ (q : ℕ) (queue : AnyQueue Parcel) (boss : AnyPass) (queue_at : slice_get queues q ≡ Some queue) (boss_at : slice_get lasts q ≡ Some boss) where
+  module _ (q : ℕ) (queue : AnyQueue Parcel R) (boss : AnyPass) (queue_at : slice_get queues q ≡ Some queue) (boss_at : slice_get lasts q ≡ Some boss) where
     gathered_at : IsGathered q played_it.stories (build_in queue) (sight_in boss).opening (sight_in boss).seen
     gathered_at = played_it.gathered q (build_in queue) (sight_in boss) (slice_get-map build_in queues q ∙ ap (option_map build_in) queue_at) (slice_get-map sight_in lasts q ∙ ap (option_map sight_in) boss_at)
 
@@ -97,7 +97,7 @@ module _ (defs : List Defined) (lefts : Lefts) (actors : Actors) (owns : List Se
     played_here : ClosedPlayed → IsPlayed q played_it.stories (played queue boss)
     played_here law = law q played_it.stories (build_in queue) (sight_in boss).opening (sight_in boss).seen (record { gathered = gathered_at; rests = rests_at })
 
-  queue_of : (q : ℕ) (boss : AnyPass) → slice_get lasts q ≡ Some boss → (queue : AnyQueue Parcel) × (slice_get queues q ≡ Some queue)
+  queue_of : (q : ℕ) (boss : AnyPass) → slice_get lasts q ≡ Some boss → (queue : AnyQueue Parcel R) × (slice_get queues q ≡ Some queue)
   queue_of q boss at = let within = slice_get_within lasts q boss at in there queues q (omega (arith, within, as_many))
 
   -- each boss's pass is the last of its queue

@@ -55,7 +55,7 @@ mem_below (suc n) k less = ⊎_elim
     (λ other. mem-append_left (n ∷ []) (mem_below n k (omega (arith, less, other))))
     (cases_eq k n)
 
-module _ (defs : List Defined) (lefts : Lefts) (puts : List ℕ) (queues : List (AnyQueue Parcel)) (bosses : List AnyPass) (opened : AreOpened defs lefts puts queues bosses) where
+module _ {R : Type 0} (defs : List Defined) (lefts : Lefts) (puts : List ℕ) (queues : List (AnyQueue Parcel R)) (bosses : List AnyPass) (opened : AreOpened defs lefts puts queues bosses) where
   -- each is of the kind that its definition asks for
   pub are_of_kinds : (rows : List (List Row)) → AllOpen defs rows (all_played queues bosses) → AreOfKinds defs (map build_in queues)
   are_of_kinds rows opens q def b at_def at_b =

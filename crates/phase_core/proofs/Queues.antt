@@ -17,7 +17,7 @@ use Rattle.phase_queues.specs.Opened.{all_played, played}
 -- Openings
 
 -- a queue opens as it did, whatever its boss came to know
-pub open_later : (defs : List Defined) (rows : List (List Row)) (queues : List (AnyQueue Parcel)) (opened lasts : List AnyPass)
+pub open_later : {R : Type 0} (defs : List Defined) (rows : List (List Row)) (queues : List (AnyQueue Parcel R)) (opened lasts : List AnyPass)
     → map (λ s. s.opening) (map sight_in lasts) ≡ map (λ s. s.opening) (map sight_in opened)
     → AllOpen defs rows (all_played queues opened) → AllOpen defs rows (all_played queues lasts)
 open_later defs rows [] opened lasts same opens = opens
@@ -35,14 +35,14 @@ open_later (def ∷ defs) (row ∷ rows) (queue ∷ queues) (o ∷ opened) (l �
     )
 
 -- the queue and the boss of one of them
-pub record PlayedBy (queues : List (AnyQueue Parcel)) (bosses : List AnyPass) (q : ℕ) (p : Played) : Type 0 where
-  pub queue : AnyQueue Parcel
+pub record PlayedBy {R : Type 0} (queues : List (AnyQueue Parcel R)) (bosses : List AnyPass) (q : ℕ) (p : Played) : Type 0 where
+  pub queue : AnyQueue Parcel R
   pub boss : AnyPass
   pub queue_at : slice_get queues q ≡ Some queue
   pub boss_at : slice_get bosses q ≡ Some boss
   pub is : played queue boss ≡ p
 
-pub played_by : (queues : List (AnyQueue Parcel)) (bosses : List AnyPass) (q : ℕ) (p : Played) → slice_get (all_played queues bosses) q ≡ Some p → PlayedBy queues bosses q p
+pub played_by : {R : Type 0} (queues : List (AnyQueue Parcel R)) (bosses : List AnyPass) (q : ℕ) (p : Played) → slice_get (all_played queues bosses) q ≡ Some p → PlayedBy queues bosses q p
 played_by [] bosses q p at = absurd (cc)
 played_by (queue ∷ queues) [] q p at = absurd (cc)
 played_by (queue ∷ queues) (boss ∷ bosses) zero p at = record { queue = queue; boss = boss; queue_at = refl; boss_at = refl; is = same_Some (played queue boss) p at }
@@ -50,13 +50,13 @@ played_by (queue ∷ queues) (boss ∷ bosses) (suc q) p at =
     let later = played_by queues bosses q p at in
     record { queue = later.queue; boss = later.boss; queue_at = later.queue_at; boss_at = later.boss_at; is = later.is }
 
-pub played_at : (queues : List (AnyQueue Parcel)) (bosses : List AnyPass) (q : ℕ) (queue : AnyQueue Parcel) (boss : AnyPass) → slice_get queues q ≡ Some queue → slice_get bosses q ≡ Some boss → slice_get (all_played queues bosses) q ≡ Some (played queue boss)
+pub played_at : {R : Type 0} (queues : List (AnyQueue Parcel R)) (bosses : List AnyPass) (q : ℕ) (queue : AnyQueue Parcel R) (boss : AnyPass) → slice_get queues q ≡ Some queue → slice_get bosses q ≡ Some boss → slice_get (all_played queues bosses) q ≡ Some (played queue boss)
 played_at [] bosses q queue boss at_q at_b = absurd (cc)
 played_at (x ∷ queues) [] q queue boss at_q at_b = absurd (cc)
-played_at (x ∷ queues) (y ∷ bosses) zero queue boss at_q at_b =
+played_at {R} (x ∷ queues) (y ∷ bosses) zero queue boss at_q at_b =
     let same : x ≡ queue = same_Some x queue at_q in
     let mine : y ≡ boss = same_Some y boss at_b in
-    ap Some (ap (λ (z : AnyQueue Parcel). played z y) same ∙ ap (λ (z : AnyPass). played queue z) mine)
+    ap Some (ap (λ (z : AnyQueue Parcel R). played z y) same ∙ ap (λ (z : AnyPass). played queue z) mine)
 played_at (x ∷ queues) (y ∷ bosses) (suc q) queue boss at_q at_b = played_at queues bosses q queue boss at_q at_b
 
 -- how one of them opened

@@ -1,6 +1,7 @@
 -- how many rows queues have room for
 use Rattle.std.proofs.Common.{◌≡◌, ℕ, zero, suc, ◌+◌, Some, List, [], ◌∷◌, length, map, slice_get, refl, sym, ap, ◌∙◌, arith}
 use Rattle.std.proofs.lemmas.List.Sums.{sum_by-cons}
+use Rattle.std.proofs.lemmas.Option.{slice_get_within}
 use Rattle.acts_core.specs.Sight.{Build}
 use Rattle.txn_core.specs.declared.parcels.Parcel.{Parcel}
 use Rattle.any_queue.specs.declared.kinds.AnyPass.{AnyPass}
@@ -11,6 +12,7 @@ use Rattle.workers_core.specs.Drops.{all_rows}
 use Rattle.phase_queues.specs.Left.{AllMayStay}
 use Rattle.phase_queues.specs.Opened.{AreOpened}
 use Rattle.phase_core.specs.Phased.{Lefts}
+use Rattle.phase_core.proofs.Places.{there}
 use Rattle.phase_core.specs.Rows.{rows_at, rows_up_to, sum_up}
 
 -- the first value apart
@@ -19,7 +21,7 @@ sum_shift f zero = omega arith
 sum_shift f (suc n) = let rest = sum_shift f n in omega (arith, rest)
 
 -- what queues have room for, by the number of each
-rows_are : (f : ℕ → ℕ) (queues : List (AnyQueue Parcel)) → ((q : ℕ) (queue : AnyQueue Parcel) → slice_get queues q ≡ Some queue → (build_in queue).rows ≡ f q) → all_rows (map build_in queues) ≡ sum_up f (length queues)
+rows_are : {R : Type 0} (f : ℕ → ℕ) (queues : List (AnyQueue Parcel R)) → ((q : ℕ) (queue : AnyQueue Parcel R) → slice_get queues q ≡ Some queue → (build_in queue).rows ≡ f q) → all_rows (map build_in queues) ≡ sum_up f (length queues)
 rows_are f [] each = refl
 rows_are f (x ∷ xs) each =
     let rest = rows_are (λ k. f (suc k)) xs (λ q queue at. each (suc q) queue at) in
@@ -34,8 +36,11 @@ lefts_many (d ∷ defs) [] stay = absurd stay
 lefts_many (d ∷ defs) (l ∷ lefts) stay = ap suc (lefts_many defs lefts stay.1)
 
 -- the queues that were opened have room for so many rows
-pub opened_rows : (defs : List Defined) (lefts : Lefts) (puts : List ℕ) (queues : List (AnyQueue Parcel)) (bosses : List AnyPass) → AreOpened defs lefts puts queues bosses → length lefts ≡ length defs
+pub opened_rows : {R : Type 0} (defs : List Defined) (lefts : Lefts) (puts : List ℕ) (queues : List (AnyQueue Parcel R)) (bosses : List AnyPass) → AreOpened defs lefts puts queues bosses → length lefts ≡ length defs
     → all_rows (map build_in queues) ≡ rows_up_to lefts puts (length lefts)
 opened_rows defs lefts puts queues bosses opened many =
-    rows_are (rows_at lefts puts) queues (λ q queue at. ap (λ (b : Build). b.rows) (opened.builds q queue at))
+    rows_are (rows_at lefts puts) queues (λ q queue at.
+        let within = slice_get_within queues q queue at in
+        let def = there defs q (omega (arith, within, opened.as_many)) in
+        ap (λ (b : Build). b.rows) (opened.builds q def.0 queue def.1 at))
     ∙ ap (rows_up_to lefts puts) (opened.as_many ∙ sym many)

@@ -12,12 +12,18 @@ ghost use Rattle.workers_core.specs.Ready.{AllServe};
 use any_queue::{AnyPass, AnyQueue};
 use phase_actors::return_targets;
 use phase_text::Log;
+use std::sync::Wait;
 use target_core::Roster;
 use txn_core::Parcel;
 use workers_core::Actor;
 
 /// Joins a pass into the boss's of the queue of this number.
-fn join_pass(queues: &[AnyQueue<Parcel>], bosses: &mut Vec<AnyPass>, number: usize, pass: AnyPass)
+fn join_pass<R: Wait + Send + Sync + Drop>(
+    queues: &[AnyQueue<Parcel, R>],
+    bosses: &mut Vec<AnyPass>,
+    number: usize,
+    pass: AnyPass,
+)
     requires as_many { length queues.now ≡ vec_len bosses.old }
     requires within { number < length queues.now }
     requires serve { AllServe ServesAny queues.now bosses.old.items }
@@ -39,7 +45,11 @@ fn join_pass(queues: &[AnyQueue<Parcel>], bosses: &mut Vec<AnyPass>, number: usi
 }
 
 /// Joins an actor's passes, one of each queue, into the bosses'.
-fn join_passes(queues: &[AnyQueue<Parcel>], bosses: &mut Vec<AnyPass>, passes: Vec<AnyPass>)
+fn join_passes<R: Wait + Send + Sync + Drop>(
+    queues: &[AnyQueue<Parcel, R>],
+    bosses: &mut Vec<AnyPass>,
+    passes: Vec<AnyPass>,
+)
     requires as_many { length queues.now ≡ vec_len bosses.old }
     requires one_each { length queues.now ≡ vec_len passes }
     requires serve { AllServe ServesAny queues.now bosses.old.items }
@@ -57,10 +67,10 @@ fn join_passes(queues: &[AnyQueue<Parcel>], bosses: &mut Vec<AnyPass>, passes: V
 
 /// Gives back what an actor had that has run: its passes to the bosses, and its targets to the roster. What is left is
 /// its log, with what it dropped.
-fn join_actor(
-    queues: &[AnyQueue<Parcel>],
+fn join_actor<R: Wait + Send + Sync + Drop>(
+    queues: &[AnyQueue<Parcel, R>],
     bosses: &mut Vec<AnyPass>,
-    actor: Actor<AnyQueue<Parcel>>,
+    actor: Actor<AnyQueue<Parcel, R>>,
     roster: &mut Roster,
 ) -> Log
     requires as_many { length queues.now ≡ vec_len bosses.old }
@@ -104,10 +114,10 @@ fn join_actor(
 
 /// Gives back what all actors of a phase had when they have run: joins their passes into the bosses', moves their
 /// targets back to the roster, and keeps the log of each, in their order. The first is caller 1. Takes no memory.
-pub(crate) fn join_actors(
-    queues: &[AnyQueue<Parcel>],
+pub(crate) fn join_actors<R: Wait + Send + Sync + Drop>(
+    queues: &[AnyQueue<Parcel, R>],
     bosses: &mut Vec<AnyPass>,
-    actors: Vec<Actor<AnyQueue<Parcel>>>,
+    actors: Vec<Actor<AnyQueue<Parcel, R>>>,
     roster: &mut Roster,
     logs: &mut Vec<Log>,
 )

@@ -4,7 +4,6 @@ ghost use Rattle.std.specs.List.{AllByRecursion};
 ghost use Rattle.std.specs.Option.{option_map};
 ghost use Rattle.acts_core.specs.Sight.{Sight};
 ghost use Rattle.any_queue.specs.Kinds.{ServesAny, build_in, sight_in};
-ghost use Rattle.any_queue.specs.Parting.{IsOfLists};
 ghost use Rattle.defs_read.specs.Allowed.{AreAllowed};
 ghost use Rattle.defs_read.specs.Defined.{queues_in};
 ghost use Rattle.phase_actors.specs.Cast.{HasServedOps};
@@ -52,9 +51,9 @@ pub struct PhaseEnd {
 fn play_actors<R: Threads + Wait + Clone + Send + Sync + Drop, G: Gate>(
     rt: &R,
     defs: &Defs,
-    queues: &[AnyQueue<Parcel>],
+    queues: &[AnyQueue<Parcel, R>],
     bosses: &mut Vec<AnyPass>,
-    actors: Vec<Actor<AnyQueue<Parcel>>>,
+    actors: Vec<Actor<AnyQueue<Parcel, R>>>,
     roster: &mut Roster,
     logs: &mut Vec<Log>,
     gate: &G,
@@ -106,7 +105,6 @@ pub fn play_phase<R: Threads + Wait + Clone + Send + Sync + Drop, G: Gate>(
     gate: &G,
 ) -> Result<PhaseEnd, NoMemory>
     requires allowed { AreAllowed (queues_in defs.now) }
-    requires lists { AllByRecursion (λ d. IsOfLists d.kind) (queues_in defs.now) }
     requires policies { ServesPolicies (queues_in defs.now) }
     requires phase { IsAllowedPhase (queues_in defs.now) false (actors_in phase) }
     requires served { AllByRecursion HasServedOps (actors_in phase) }
@@ -125,7 +123,7 @@ pub fn play_phase<R: Threads + Wait + Clone + Send + Sync + Drop, G: Gate>(
         return Err(NoMemory);
     };
     let rows = rows_of(left.as_slice(), puts.as_slice());
-    let opened = open_queues(alloc, defs, left, &puts)?;
+    let opened = open_queues(rt, alloc, defs, left, &puts)?;
     let Opened {
         queues,
         bosses,

@@ -9,7 +9,7 @@ use Rattle.queue_model.specs.declared.queues.Queue.{Queue}
 use Rattle.queue_model.specs.declared.rows.Row.{Row}
 use Rattle.queue_model.specs.declared.rows.RowState.{RowState}
 use Rattle.queue_model.specs.declared.rows.RowState.TheVariants.{Available, Locked, Unlocked, Dequeued, Deleted}
-use Rattle.queue_model.specs.Order.{Precedes, ByList}
+use Rattle.queue_model.specs.Order.{Precedes}
 use Rattle.queue_model.specs.Sound.{Sound}
 use Rattle.queue_model.specs.State.{is_row, row_at, rows_of}
 use Rattle.queue_model.proofs.KeyedLemmas.{all-find, find-here, find-past, find_passes}
@@ -17,10 +17,11 @@ use Rattle.queue_model.proofs.Orders.{precedes_not, precedes_trans}
 use Rattle.queue_model.proofs.SoundSteps.{row_fits}
 use Rattle.acts_core.specs.Moments.{IsRow}
 use Rattle.acts_core.specs.Rest.{InOrder, IsLive}
-use Rattle.acts_core.specs.Sight.{Listed}
+use Rattle.acts_core.specs.Sight.{Kind, Listed, Sorted, LastValue, order_of}
 use Rattle.entry_table.specs.Resting.{is_live, live, rests}
 use Rattle.entry_table.proofs.Remaining.{rests_live, rests_ordered, rests_whole}
 use Rattle.account_core.specs.Carry.{entries_of, from_highest, stays}
+use Rattle.phase_queues.proofs.Arriving.{keyed_live, keyed_order, keyed_whole, stay_live, stay_order, stay_whole}
 
 -- Members
 
@@ -34,7 +35,7 @@ absent p (y ∷ ys) x hit none m = ⊎_elim
     (λ tail. absent p ys x hit (sym (find-past p y ys past) ∙ none) tail))
     (cases_Bool (p y))
 
-module _ (q : Queue) where
+module _ (kind : Kind) (q : Queue) where
   -- rows of one number are one
   one_row : (x y : Row) → IsRow q x → IsRow q y → x.number ≡ y.number → x ≡ y
   one_row x y a b e = let same : Some x ≡ Some y = sym a ∙ ap (row_at q) e ∙ b in cc
@@ -53,19 +54,19 @@ module _ (q : Queue) where
   Finds xs ys = (n : ℕ) (z : Row) → find (is_row n) xs ≡ Some z → find (is_row n) ys ≡ Some z
 
   -- what is found behind the first of a list in order isn't the first
-  behind : (x z : Row) (xs : List Row) (n : ℕ) → InOrder Listed q (x ∷ xs) → AllByRecursion (IsRow q) (x ∷ xs) → find (is_row n) xs ≡ Some z → x.number ≢ n
+  behind : (x z : Row) (xs : List Row) (n : ℕ) → InOrder kind q (x ∷ xs) → AllByRecursion (IsRow q) (x ∷ xs) → find (is_row n) xs ≡ Some z → x.number ≢ n
   behind x z xs n order all e same =
       let number : z.number ≡ n = eqb-true z.number n (find_passes (is_row n) xs z e) in
       let is : x ≡ z = one_row x z all.0 (all-find (IsRow q) (is_row n) xs z all.1 e) (same ∙ sym number) in
-      let before : Precedes ByList q x z = all-find (λ y. Precedes ByList q x y) (is_row n) xs z order.0 e in
-      precedes_not ByList q x (subst (Precedes ByList q x) (sym is) before)
+      let before : Precedes (order_of kind) q x z = all-find (λ y. Precedes (order_of kind) q x y) (is_row n) xs z order.0 e in
+      precedes_not (order_of kind) q x (subst (Precedes (order_of kind) q x) (sym is) before)
 
-  tails : (x : Row) (xs ys : List Row) → InOrder Listed q (x ∷ xs) → AllByRecursion (IsRow q) (x ∷ xs) → Finds (x ∷ xs) (x ∷ ys) → Finds xs ys
+  tails : (x : Row) (xs ys : List Row) → InOrder kind q (x ∷ xs) → AllByRecursion (IsRow q) (x ∷ xs) → Finds (x ∷ xs) (x ∷ ys) → Finds xs ys
   tails x xs ys order all go n z e =
       let past = ne_eqb x.number n (behind x z xs n order all e) in
       sym (find-past (is_row n) x ys past) ∙ go n z (find-past (is_row n) x xs past ∙ e)
 
-  one_list : (xs ys : List Row) → AllByRecursion (IsRow q) xs → AllByRecursion (IsRow q) ys → InOrder Listed q xs → InOrder Listed q ys → Finds xs ys → Finds ys xs → xs ≡ ys
+  one_list : (xs ys : List Row) → AllByRecursion (IsRow q) xs → AllByRecursion (IsRow q) ys → InOrder kind q xs → InOrder kind q ys → Finds xs ys → Finds ys xs → xs ≡ ys
   one_list [] [] a b o p to back = refl
   one_list [] (y ∷ ys) a b o p to back = let bad : None ≡ Some y = back y.number y (find-here (is_row y.number) y ys (eq-eqb y.number y.number refl)) in absurd (cc)
   one_list (x ∷ xs) [] a b o p to back = let bad : None ≡ Some x = to x.number x (find-here (is_row x.number) x xs (eq-eqb x.number x.number refl)) in absurd (cc)
@@ -75,15 +76,15 @@ module _ (q : Queue) where
       let go : Finds (x ∷ xs) (x ∷ ys) = subst (λ (z : Row). Finds (x ∷ xs) (z ∷ ys)) (sym is) to in
       let home : Finds (x ∷ ys) (x ∷ xs) = subst (λ (z : Row). Finds (z ∷ ys) (x ∷ xs)) (sym is) back in
       let rows : AllByRecursion (IsRow q) (x ∷ ys) = (a.0, b.1) in
-      let order : InOrder Listed q (x ∷ ys) = subst (λ (z : Row). InOrder Listed q (z ∷ ys)) (sym is) p in
+      let order : InOrder kind q (x ∷ ys) = subst (λ (z : Row). InOrder kind q (z ∷ ys)) (sym is) p in
       let rest : xs ≡ ys = one_list xs ys a.1 b.1 o.1 p.1 (tails x xs ys o a go) (tails x ys xs order rows home) in
       λ i. is i ∷ rest i)
       (λ (ne : x.number ≢ y.number).
       let later : find (is_row y.number) xs ≡ Some y = sym (find-past (is_row y.number) x xs (ne_eqb x.number y.number ne)) ∙ back y.number y (find-here (is_row y.number) y ys (eq-eqb y.number y.number refl)) in
       let also : find (is_row x.number) ys ≡ Some x = sym (find-past (is_row x.number) y ys (ne_eqb y.number x.number (λ e. ne (sym e)))) ∙ to x.number x (find-here (is_row x.number) x xs (eq-eqb x.number x.number refl)) in
-      let before : Precedes ByList q x y = all-find (λ z. Precedes ByList q x z) (is_row y.number) xs y o.0 later in
-      let after : Precedes ByList q y x = all-find (λ z. Precedes ByList q y z) (is_row x.number) ys x p.0 also in
-      absurd (precedes_not ByList q x (precedes_trans ByList q x y x before after)))
+      let before : Precedes (order_of kind) q x y = all-find (λ z. Precedes (order_of kind) q x z) (is_row y.number) xs y o.0 later in
+      let after : Precedes (order_of kind) q y x = all-find (λ z. Precedes (order_of kind) q y z) (is_row x.number) ys x p.0 also in
+      absurd (precedes_not (order_of kind) q x (precedes_trans (order_of kind) q x y x before after)))
       (cases_eq x.number y.number)
 
   all_rows : (xs : List Row) → AllByRecursion (IsLive q) xs → AllByRecursion (IsRow q) xs
@@ -98,7 +99,7 @@ module _ (q : Queue) where
       subst (λ (k : ℕ). find (is_row k) ys ≡ Some z) number (is_found (IsLive q) ys z live_ys (λ y l. l.there) lives.there (whole z lives))
 
   -- all rows that aren't deleted, in queue order, are one list
-  pub one_rest : (xs ys : List Row) → AllByRecursion (IsLive q) xs → AllByRecursion (IsLive q) ys → ((x : Row) → IsLive q x → Mem x xs) → ((x : Row) → IsLive q x → Mem x ys) → InOrder Listed q xs → InOrder Listed q ys → xs ≡ ys
+  pub one_rest : (xs ys : List Row) → AllByRecursion (IsLive q) xs → AllByRecursion (IsLive q) ys → ((x : Row) → IsLive q x → Mem x xs) → ((x : Row) → IsLive q x → Mem x ys) → InOrder kind q xs → InOrder kind q ys → xs ≡ ys
   one_rest xs ys live_xs live_ys whole_xs whole_ys order_xs order_ys =
       one_list xs ys (all_rows xs live_xs) (all_rows ys live_ys) order_xs order_ys (finds xs ys live_xs live_ys whole_ys) (finds ys xs live_ys live_xs whole_xs)
 
@@ -125,10 +126,18 @@ entries_below : (q : Queue) (n : ℕ) → filter (λ x. stays x.state) (from_hig
 entries_below q zero = refl
 entries_below q (suc n) = live_append (rows_of q n) (from_highest q n) ∙ ap (λ (l : List Row). live (rows_of q n) ++ l) (entries_below q n)
 
-pub rest_entries : (q : Queue) (rows : List Row) → Sound q → AllByRecursion (IsLive q) rows → ((x : Row) → IsLive q x → Mem x rows) → InOrder Listed q rows → rows ≡ entries_of q
-rest_entries q rows sound lives whole order =
+listed_entries : (q : Queue) (rows : List Row) → Sound q → AllByRecursion (IsLive q) rows → ((x : Row) → IsLive q x → Mem x rows) → InOrder Listed q rows → rows ≡ entries_of Listed q
+listed_entries q rows sound lives whole order =
     let load : ℕ → _ = λ n. record { id = 0; size = 0; count = 0; content = []; origin = [] } in
-    one_rest q rows (rests q.lists q) lives (rests_live load q sound.rows_apart q.lists) whole
+    one_rest Listed q rows (rests q.lists q) lives (rests_live load q sound.rows_apart q.lists) whole
     (rests_whole load q sound.rows_apart q.lists (λ x found. (row_fits q x.number x sound found).list))
     order (rests_ordered load q sound.rows_apart q.lists)
     ∙ sym (entries_below q q.lists)
+
+-- all rows that are not deleted, in queue order, are the entries
+pub rest_entries : (kind : Kind) (q : Queue) (rows : List Row) → Sound q → AllByRecursion (IsLive q) rows → ((x : Row) → IsLive q x → Mem x rows) → InOrder kind q rows → rows ≡ entries_of kind q
+rest_entries Listed q rows sound lives whole order = listed_entries q rows sound lives whole order
+rest_entries Sorted q rows sound lives whole order =
+    one_rest Sorted q rows (entries_of Sorted q) lives (keyed_live q sound.rows_apart) whole (keyed_whole q sound.rows_apart) order (keyed_order q sound.rows_apart)
+rest_entries LastValue q rows sound lives whole order =
+    one_rest LastValue q rows (entries_of LastValue q) lives (stay_live q sound.rows_apart) whole (stay_whole q) order (stay_order q sound.rows_apart)

@@ -9,7 +9,7 @@ use Rattle.queue_model.specs.Sound.{Sound}
 use Rattle.queue_model.proofs.SoundSteps.{sound_after, sound_opening}
 use Rattle.acts_core.specs.Asked.{IsSightOf, KeyFits}
 use Rattle.acts_core.specs.Rest.{AreRests, left_of}
-use Rattle.acts_core.specs.Sight.{Kind, Listed, known}
+use Rattle.acts_core.specs.Sight.{Kind, known}
 use Rattle.acts_core.specs.declared.cargoes.RestEntry.{RestEntry}
 use Rattle.acts_core.proofs.Running.{lists_stay}
 use Rattle.txn_core.specs.declared.parcels.Parcel.{Parcel}
@@ -18,7 +18,6 @@ use Rattle.defs_read.specs.Defined.{Defined}
 use Rattle.report_core.specs.declared.answers.Resting.{Resting}
 use Rattle.any_queue.specs.declared.kinds.AnyPass.{AnyPass}
 use Rattle.any_queue.specs.declared.kinds.AnyQueue.{AnyQueue}
-use Rattle.any_queue.specs.declared.kinds.AnyQueue.TheVariants as queues
 use Rattle.any_queue.specs.Kinds.{build_in, sight_in, ServesAny, any_opens}
 use Rattle.any_queue.specs.Parting.{IsLast}
 use Rattle.phase_text.specs.declared.logs.Rest.{Rest}
@@ -27,52 +26,48 @@ use Rattle.account_core.specs.Counting.{with_ids}
 use Rattle.account_core.specs.Phases.{AllOpen}
 use Rattle.account_core.specs.Played.{Played, rest_of}
 use Rattle.account_core.specs.Texts.{RestsTell, queue_names, resting}
-use Rattle.phase_queues.specs.Left.{Remains, AllMayStay, MayStay, ids_left, items_of, many_left, resting_left, row_left, rows_left}
+use Rattle.phase_queues.specs.Left.{Remains, AllMayStay, MayGoOn, ids_left, lasting_in, left_in, many_left, resting_left, row_left, rows_left}
 use Rattle.phase_queues.specs.Opened.{AllServed, RestsHold, TellNothing, all_played, played, rest_names}
-use Rattle.phase_queues.specs.Closed.{AllLeave, AreLast, AreOfRows, Leaves, NoOthers, RestsFit, TellsMore, ToldBelow}
-use Rattle.phase_queues.proofs.Leaving.{few_ids, few_left, may_stay, rows_left-is, told-is}
+use Rattle.phase_queues.specs.Closed.{AllLasting, AllLeave, AreLast, AreOfRows, LastingBelow, Leaves, NoOthers, RestsFit, TellsMore, ToldBelow}
+use Rattle.phase_queues.proofs.Leaving.{few_lasting, few_lasting_ids, few_left, may_stay, one_list, rows_left-is, told-is}
 use Rattle.phase_queues.proofs.Places.{get_low, get_mid, get_set, set_past}
+use Rattle.phase_queues.proofs.Starting.{all_get}
 
 -- One queue
-
--- all kinds of queue so far are listed
-listed : (queue : AnyQueue Parcel) → (build_in queue).kind ≡ Listed
-listed (queues.Listed e) = refl
 
 -- the pass knows a sound state
 abbrev pub Knows : AnyPass → Type 0
 Knows boss = Sound (known (sight_in boss))
 
-knows : (queue : AnyQueue Parcel) (boss : AnyPass) → IsSightOf (build_in queue) (sight_in boss) → Legal (sight_in boss).opening (sight_in boss).seen → Knows boss
+knows : {R : Type 0} (queue : AnyQueue Parcel R) (boss : AnyPass) → IsSightOf (build_in queue) (sight_in boss) → Legal (sight_in boss).opening (sight_in boss).seen → Knows boss
 knows queue boss s legal = sound_after (sight_in boss).opening (sight_in boss).seen (sound_opening (sight_in boss).opening s.opening) legal
 
-module _ (queue : AnyQueue Parcel) (boss : AnyPass) (es : List (RestEntry Parcel)) (l : Leaves queue boss es) (sound : Knows boss) where
-  rests : AreRests Listed (known (sight_in boss)) (map (left_of load_of) es)
-  rests = subst (λ (k : Kind). AreRests k (known (sight_in boss)) (map (left_of load_of) es)) (listed queue) l.closed.rests
+module _ {R : Type 0} (queue : AnyQueue Parcel R) (boss : AnyPass) (es : List (RestEntry Parcel)) (l : Leaves queue boss es) (sound : Knows boss) where
+  left_rows : (def : Defined) (rows : List Row) → Opens def rows (played queue boss).plan → map row_left (lasting_in es) ≡ handed_on (played queue boss)
+  left_rows def rows o =
+      let same = lists_stay (sight_in boss).opening (sight_in boss).seen in
+      rows_left-is (build_in queue).kind (known (sight_in boss)) sound es l.closed.rests (λ last. same.0 ∙ o.lists ∙ one_list def.kind (sym o.kind ∙ last))
 
-  keys : AllByRecursion (λ (e : RestEntry Parcel). KeyFits Listed e.slip.key) es
-  keys = subst (λ (k : Kind). AllByRecursion (λ (e : RestEntry Parcel). KeyFits k e.slip.key) es) (listed queue) l.keys
-
-  left_rows : map row_left es ≡ handed_on (played queue boss)
-  left_rows = rows_left-is (known (sight_in boss)) sound es rests
-
-  left_told : map resting_left es ≡ map resting (entries_of (known (sight_in boss)))
-  left_told = told-is (known (sight_in boss)) sound es rests
+  left_told : map resting_left es ≡ map resting (entries_of (build_in queue).kind (known (sight_in boss)))
+  left_told = told-is (build_in queue).kind (known (sight_in boss)) sound es l.closed.rests
 
   left_few : length es ≤ length (known (sight_in boss)).rows
-  left_few = few_left (known (sight_in boss)) sound es rests
+  left_few = few_left (build_in queue).kind (known (sight_in boss)) sound es l.closed.rests
 
-  left_ids : (test : ℕ → Bool) → count_by (λ e. test e.slip.id) es ≤ with_ids test (known (sight_in boss)).rows
-  left_ids = few_ids (known (sight_in boss)) sound es rests
+  lasting_few : length (lasting_in es) ≤ length (known (sight_in boss)).rows
+  lasting_few = few_lasting (build_in queue).kind (known (sight_in boss)) sound es l.closed.rests
 
-  left_stay : (def : Defined) (rows : List Row) → Opens def rows (played queue boss).plan → AllByRecursion (MayStay def) es
+  lasting_ids : (test : ℕ → Bool) → count_by (λ e. test e.slip.id) (lasting_in es) ≤ with_ids test (known (sight_in boss)).rows
+  lasting_ids = few_lasting_ids (build_in queue).kind (known (sight_in boss)) sound es l.closed.rests
+
+  left_stay : (def : Defined) (rows : List Row) → Opens def rows (played queue boss).plan → MayGoOn def (lasting_in es)
   left_stay def rows o =
       let same = lists_stay (sight_in boss).opening (sight_in boss).seen in
-      may_stay (known (sight_in boss)) sound es rests def (same.0 ∙ o.lists) (same.1 ∙ o.consumers) keys
+      may_stay (build_in queue).kind (known (sight_in boss)) sound es l.closed.rests def (sym o.kind) (same.0 ∙ o.lists) (same.1 ∙ o.consumers) l.keys
 
 -- All queues
 
-pub all_sound : (queues : List (AnyQueue Parcel)) (bosses : List AnyPass) → length bosses ≡ length queues → AllServed queues bosses → AreLast bosses → AllByRecursion Knows bosses
+pub all_sound : {R : Type 0} (queues : List (AnyQueue Parcel R)) (bosses : List AnyPass) → length bosses ≡ length queues → AllServed queues bosses → AreLast bosses → AllByRecursion Knows bosses
 all_sound queues [] same serves last = tt
 all_sound [] (boss ∷ bosses) same serves last = absurd (omega (arith, same))
 all_sound (queue ∷ queues) (boss ∷ bosses) same serves last = (
@@ -80,36 +75,43 @@ all_sound (queue ∷ queues) (boss ∷ bosses) same serves last = (
   all_sound queues bosses (omega (arith, same)) (λ q. serves (suc q)) (record { last = λ q. last.last (suc q); legal = λ q. last.legal (suc q) }),
 )
 
-pub all_rows : (queues : List (AnyQueue Parcel)) (bosses : List AnyPass) (lefts : List Remains) → AllLeave queues bosses lefts → AllByRecursion Knows bosses → rows_left lefts ≡ map handed_on (all_played queues bosses)
-all_rows [] [] [] l sound = refl
-all_rows [] [] (es ∷ lefts) l sound = absurd l
-all_rows [] (boss ∷ bosses) lefts l sound = absurd l
-all_rows (queue ∷ queues) [] lefts l sound = absurd l
-all_rows (queue ∷ queues) (boss ∷ bosses) [] l sound = absurd l
-all_rows (queue ∷ queues) (boss ∷ bosses) (es ∷ lefts) l sound =
-    let first = left_rows queue boss es.items l.0 sound.0 in
-    let rest = all_rows queues bosses lefts l.1 sound.1 in
+pub all_rows : {R : Type 0} (queues : List (AnyQueue Parcel R)) (bosses : List AnyPass) (lefts news : List Remains) (defs : List Defined) (rows : List (List Row)) → AllLeave queues bosses lefts → AllByRecursion Knows bosses → AllLasting lefts news → AllOpen defs rows (all_played queues bosses) → rows_left news ≡ map handed_on (all_played queues bosses)
+all_rows [] [] [] [] defs rows l sound a o = refl
+all_rows [] [] [] (new ∷ news) defs rows l sound a o = absurd a
+all_rows [] [] (es ∷ lefts) news defs rows l sound a o = absurd l
+all_rows [] (boss ∷ bosses) lefts news defs rows l sound a o = absurd l
+all_rows (queue ∷ queues) [] lefts news defs rows l sound a o = absurd l
+all_rows (queue ∷ queues) (boss ∷ bosses) [] news defs rows l sound a o = absurd l
+all_rows (queue ∷ queues) (boss ∷ bosses) (es ∷ lefts) [] defs rows l sound a o = absurd a
+all_rows (queue ∷ queues) (boss ∷ bosses) (es ∷ lefts) (new ∷ news) [] [] l sound a o = absurd o
+all_rows (queue ∷ queues) (boss ∷ bosses) (es ∷ lefts) (new ∷ news) [] (r ∷ rows) l sound a o = absurd o
+all_rows (queue ∷ queues) (boss ∷ bosses) (es ∷ lefts) (new ∷ news) (def ∷ defs) [] l sound a o = absurd o
+all_rows (queue ∷ queues) (boss ∷ bosses) (es ∷ lefts) (new ∷ news) (def ∷ defs) (r ∷ rows) l sound a o =
+    let first = ap (map row_left) a.0 ∙ left_rows queue boss es.items l.0 sound.0 def r o.0 in
+    let rest = all_rows queues bosses lefts news defs rows l.1 sound.1 a.1 o.1 in
     λ i. first i ∷ rest i
 
-pub all_stay : (queues : List (AnyQueue Parcel)) (bosses : List AnyPass) (lefts : List Remains) (defs : List Defined) (rows : List (List Row)) → AllLeave queues bosses lefts → AllByRecursion Knows bosses → AllOpen defs rows (all_played queues bosses) → AllMayStay defs lefts
-all_stay [] [] [] [] rows l sound o = tt
-all_stay [] [] [] (def ∷ defs) [] l sound o = absurd o
-all_stay [] [] [] (def ∷ defs) (r ∷ rows) l sound o = absurd o
-all_stay [] [] (es ∷ lefts) defs rows l sound o = absurd l
-all_stay [] (boss ∷ bosses) lefts defs rows l sound o = absurd l
-all_stay (queue ∷ queues) [] lefts defs rows l sound o = absurd l
-all_stay (queue ∷ queues) (boss ∷ bosses) [] defs rows l sound o = absurd l
-all_stay (queue ∷ queues) (boss ∷ bosses) (es ∷ lefts) [] [] l sound o = absurd o
-all_stay (queue ∷ queues) (boss ∷ bosses) (es ∷ lefts) [] (r ∷ rows) l sound o = absurd o
-all_stay (queue ∷ queues) (boss ∷ bosses) (es ∷ lefts) (def ∷ defs) [] l sound o = absurd o
-all_stay (queue ∷ queues) (boss ∷ bosses) (es ∷ lefts) (def ∷ defs) (r ∷ rows) l sound o =
-    (left_stay queue boss es.items l.0 sound.0 def r o.0, all_stay queues bosses lefts defs rows l.1 sound.1 o.1)
+pub all_stay : {R : Type 0} (queues : List (AnyQueue Parcel R)) (bosses : List AnyPass) (lefts news : List Remains) (defs : List Defined) (rows : List (List Row)) → AllLeave queues bosses lefts → AllByRecursion Knows bosses → AllLasting lefts news → AllOpen defs rows (all_played queues bosses) → AllMayStay defs news
+all_stay [] [] [] [] [] rows l sound a o = tt
+all_stay [] [] [] [] (def ∷ defs) [] l sound a o = absurd o
+all_stay [] [] [] [] (def ∷ defs) (r ∷ rows) l sound a o = absurd o
+all_stay [] [] [] (new ∷ news) defs rows l sound a o = absurd a
+all_stay [] [] (es ∷ lefts) news defs rows l sound a o = absurd l
+all_stay [] (boss ∷ bosses) lefts news defs rows l sound a o = absurd l
+all_stay (queue ∷ queues) [] lefts news defs rows l sound a o = absurd l
+all_stay (queue ∷ queues) (boss ∷ bosses) [] news defs rows l sound a o = absurd l
+all_stay (queue ∷ queues) (boss ∷ bosses) (es ∷ lefts) [] defs rows l sound a o = absurd a
+all_stay (queue ∷ queues) (boss ∷ bosses) (es ∷ lefts) (new ∷ news) [] [] l sound a o = absurd o
+all_stay (queue ∷ queues) (boss ∷ bosses) (es ∷ lefts) (new ∷ news) [] (r ∷ rows) l sound a o = absurd o
+all_stay (queue ∷ queues) (boss ∷ bosses) (es ∷ lefts) (new ∷ news) (def ∷ defs) [] l sound a o = absurd o
+all_stay (queue ∷ queues) (boss ∷ bosses) (es ∷ lefts) (new ∷ news) (def ∷ defs) (r ∷ rows) l sound a o =
+    (subst (MayGoOn def) (sym a.0) (left_stay queue boss es.items l.0 sound.0 def r o.0), all_stay queues bosses lefts news defs rows l.1 sound.1 a.1 o.1)
 
 -- Queue q of all
 
 -- a queue, its boss and its entries, where one of the three is found
-pub record Found (queues : List (AnyQueue Parcel)) (bosses : List AnyPass) (lefts : List Remains) (q : ℕ) : Type 0 where
-  pub queue : AnyQueue Parcel
+pub record Found {R : Type 0} (queues : List (AnyQueue Parcel R)) (bosses : List AnyPass) (lefts : List Remains) (q : ℕ) : Type 0 where
+  pub queue : AnyQueue Parcel R
   pub boss : AnyPass
   pub es : Remains
   pub queue_is : slice_get queues q ≡ Some queue
@@ -119,7 +121,7 @@ pub record Found (queues : List (AnyQueue Parcel)) (bosses : List AnyPass) (left
   pub sound : Knows boss
   pub played_is : slice_get (all_played queues bosses) q ≡ Some (played queue boss)
 
-pub found : (queues : List (AnyQueue Parcel)) (bosses : List AnyPass) (lefts : List Remains) (q : ℕ) → AllLeave queues bosses lefts → AllByRecursion Knows bosses → q < length queues → Found queues bosses lefts q
+pub found : {R : Type 0} (queues : List (AnyQueue Parcel R)) (bosses : List AnyPass) (lefts : List Remains) (q : ℕ) → AllLeave queues bosses lefts → AllByRecursion Knows bosses → q < length queues → Found queues bosses lefts q
 found [] bosses lefts q l sound low = absurd (omega (arith, low))
 found (queue ∷ queues) [] lefts q l sound low = absurd l
 found (queue ∷ queues) (boss ∷ bosses) [] q l sound low = absurd l
@@ -130,7 +132,7 @@ found (queue ∷ queues) (boss ∷ bosses) (es ∷ lefts) (suc q) l sound low =
     record { queue = f.queue; boss = f.boss; es = f.es; queue_is = f.queue_is; boss_is = f.boss_is; es_is = f.es_is; leaves = f.leaves; sound = f.sound; played_is = f.played_is }
 
 -- there are as many of each
-pub as_many : (queues : List (AnyQueue Parcel)) (bosses : List AnyPass) (lefts : List Remains) → AllLeave queues bosses lefts → (length bosses ≡ length queues) × (length lefts ≡ length queues) × (length (all_played queues bosses) ≡ length queues)
+pub as_many : {R : Type 0} (queues : List (AnyQueue Parcel R)) (bosses : List AnyPass) (lefts : List Remains) → AllLeave queues bosses lefts → (length bosses ≡ length queues) × (length lefts ≡ length queues) × (length (all_played queues bosses) ≡ length queues)
 as_many [] [] [] l = (refl, refl, refl)
 as_many [] [] (es ∷ lefts) l = absurd l
 as_many [] (boss ∷ bosses) lefts l = absurd l
@@ -141,7 +143,14 @@ as_many (queue ∷ queues) (boss ∷ bosses) (es ∷ lefts) l = let t = as_many 
 one : {X : Type 0} (a b : X) (o : Option X) → o ≡ Some a → o ≡ Some b → a ≡ b
 one a b o e f = let same : Some a ≡ Some b = sym e ∙ f in cc
 
-module _ (qs : List (AnyQueue Parcel)) (bosses : List AnyPass) (lefts : List Remains) (l : AllLeave qs bosses lefts) (sound : AllByRecursion Knows bosses) where
+-- what goes on of queue q
+lasts_at : (lefts news : List Remains) → AllLasting lefts news → (q : ℕ) (es : Remains) → slice_get lefts q ≡ Some es → left_in q news ≡ lasting_in es.items
+lasts_at [] news a q es e = absurd (cc)
+lasts_at (old ∷ olds) [] a q es e = absurd a
+lasts_at (old ∷ olds) (new ∷ news) a zero es e = let is : old ≡ es = cc in a.0 ∙ ap (λ (z : Remains). lasting_in z.items) is
+lasts_at (old ∷ olds) (new ∷ news) a (suc q) es e = lasts_at olds news a.1 q es e
+
+module _ {R : Type 0} (qs : List (AnyQueue Parcel R)) (bosses : List AnyPass) (lefts : List Remains) (l : AllLeave qs bosses lefts) (sound : AllByRecursion Knows bosses) where
   at_played : (q : ℕ) (p : Played) → slice_get (all_played qs bosses) q ≡ Some p → Found qs bosses lefts q
   at_played q p e =
       let low = get_low (all_played qs bosses) q p e in
@@ -160,23 +169,23 @@ module _ (qs : List (AnyQueue Parcel)) (bosses : List AnyPass) (lefts : List Rem
       let same = (as_many qs bosses lefts l).1 in
       found qs bosses lefts q l sound (omega (arith, low, same))
 
-  pub of_rows : AreOfRows (all_played qs bosses) lefts
-  of_rows = record { many = many; ids = ids } where
-    many : (q : ℕ) (p : Played) → slice_get (all_played qs bosses) q ≡ Some p → many_left q lefts ≤ length (rest_of p).rows
+  pub of_rows : (news : List Remains) → AllLasting lefts news → AreOfRows (all_played qs bosses) news
+  of_rows news lasts = record { many = many; ids = ids } where
+    many : (q : ℕ) (p : Played) → slice_get (all_played qs bosses) q ≡ Some p → many_left q news ≤ length (rest_of p).rows
     many q p e =
         let f = at_played q p e in
         let is : played f.queue f.boss ≡ p = one (played f.queue f.boss) p (slice_get (all_played qs bosses) q) f.played_is e in
-        let few = left_few f.queue f.boss f.es.items f.leaves f.sound in
-        let here : many_left q lefts ≡ length f.es.items = ap (λ (o : Option Remains). length (items_of o)) f.es_is in
+        let few = lasting_few f.queue f.boss f.es.items f.leaves f.sound in
+        let here = ap (λ (es : List (RestEntry Parcel)). length es) (lasts_at lefts news lasts q f.es f.es_is) in
         let rows : length (known (sight_in f.boss)).rows ≡ length (rest_of p).rows = ap (λ (z : Played). length (rest_of z).rows) is in
         omega (arith, few, here, rows)
 
-    ids : (q : ℕ) (test : ℕ → Bool) (p : Played) → slice_get (all_played qs bosses) q ≡ Some p → ids_left q test lefts ≤ with_ids test (rest_of p).rows
+    ids : (q : ℕ) (test : ℕ → Bool) (p : Played) → slice_get (all_played qs bosses) q ≡ Some p → ids_left q test news ≤ with_ids test (rest_of p).rows
     ids q test p e =
         let f = at_played q p e in
         let is : played f.queue f.boss ≡ p = one (played f.queue f.boss) p (slice_get (all_played qs bosses) q) f.played_is e in
-        let few = left_ids f.queue f.boss f.es.items f.leaves f.sound test in
-        let here : ids_left q test lefts ≡ count_by (λ (z : RestEntry Parcel). test z.slip.id) f.es.items = ap (λ (o : Option Remains). count_by (λ (z : RestEntry Parcel). test z.slip.id) (items_of o)) f.es_is in
+        let few = lasting_ids f.queue f.boss f.es.items f.leaves f.sound test in
+        let here = ap (λ (es : List (RestEntry Parcel)). count_by (λ (z : RestEntry Parcel). test z.slip.id) es) (lasts_at lefts news lasts q f.es f.es_is) in
         let rows : with_ids test (known (sight_in f.boss)).rows ≡ with_ids test (rest_of p).rows = ap (λ (z : Played). with_ids test (rest_of z).rows) is in
         omega (arith, few, here, rows)
 
@@ -203,7 +212,7 @@ module _ (qs : List (AnyQueue Parcel)) (bosses : List AnyPass) (lefts : List Rem
 
 -- Told
 
-pub all_told : (queues : List (AnyQueue Parcel)) (bosses : List AnyPass) (lefts : List Remains) (olds news : List Rest) (defs : List Defined) → AllLeave queues bosses lefts → AllByRecursion Knows bosses
+pub all_told : {R : Type 0} (queues : List (AnyQueue Parcel R)) (bosses : List AnyPass) (lefts : List Remains) (olds news : List Rest) (defs : List Defined) → AllLeave queues bosses lefts → AllByRecursion Knows bosses
     → length olds ≡ length queues → length news ≡ length olds → rest_names olds ≡ queue_names defs → TellNothing olds → TellsMore olds lefts news → RestsTell news defs (all_played queues bosses)
 all_told [] [] [] [] [] [] l sound long same names none more = tt
 all_told [] [] [] [] [] (def ∷ defs) l sound long same names none more = absurd (cc)
@@ -228,29 +237,29 @@ all_told (queue ∷ queues) (boss ∷ bosses) (es ∷ lefts) (old ∷ olds) (new
 -- Closing from the last queue on
 
 -- The queues from some place on are closed, and have left this, the last one first.
-pub record Leaving (queues : List (AnyQueue Parcel)) (bosses : List AnyPass) (staying : List (AnyQueue Parcel)) (passes : List AnyPass) (lefts : List Remains) : Type 0 where
-  pub closed : List (AnyQueue Parcel)
+pub record Leaving {R : Type 0} (queues : List (AnyQueue Parcel R)) (bosses : List AnyPass) (staying : List (AnyQueue Parcel R)) (passes : List AnyPass) (lefts : List Remains) : Type 0 where
+  pub closed : List (AnyQueue Parcel R)
   pub gone : List AnyPass
   pub queues_are : queues ≡ staying ++ closed
   pub bosses_are : bosses ≡ passes ++ gone
   pub same : length passes ≡ length staying
   pub leave : AllLeave closed gone (reverse lefts)
 
-pub leaving_begins : (queues : List (AnyQueue Parcel)) (bosses : List AnyPass) (lefts : List Remains) → length bosses ≡ length queues → lefts ≡ [] → Leaving queues bosses queues bosses lefts
-leaving_begins queues bosses lefts same none = record {
+pub leaving_begins : {R : Type 0} (queues : List (AnyQueue Parcel R)) (bosses : List AnyPass) (lefts : List Remains) → length bosses ≡ length queues → lefts ≡ [] → Leaving queues bosses queues bosses lefts
+leaving_begins {R} queues bosses lefts same none = record {
   closed = [];
   gone = [];
   queues_are = sym (append-nil queues);
   bosses_are = sym (append-nil bosses);
   same = same;
-  leave = subst (λ (z : List Remains). AllLeave [] [] (reverse z)) (sym none) tt;
+  leave = subst (λ (z : List Remains). AllLeave {R = R} [] [] (reverse z)) (sym none) tt;
 }
 
-pub leaving_ends : (queues : List (AnyQueue Parcel)) (bosses : List AnyPass) (passes : List AnyPass) (lefts : List Remains) → Leaving queues bosses [] passes lefts → AllLeave queues bosses (reverse lefts)
-leaving_ends queues bosses [] lefts l = subst (λ (t : List (AnyQueue Parcel) × List AnyPass). AllLeave t.0 t.1 (reverse lefts)) (λ i. (sym l.queues_are i, sym l.bosses_are i)) l.leave
+pub leaving_ends : {R : Type 0} (queues : List (AnyQueue Parcel R)) (bosses : List AnyPass) (passes : List AnyPass) (lefts : List Remains) → Leaving queues bosses [] passes lefts → AllLeave queues bosses (reverse lefts)
+leaving_ends {R} queues bosses [] lefts l = subst (λ (t : List (AnyQueue Parcel R) × List AnyPass). AllLeave t.0 t.1 (reverse lefts)) (λ i. (sym l.queues_are i, sym l.bosses_are i)) l.leave
 leaving_ends queues bosses (b ∷ passes) lefts l = let same = l.same in absurd (omega (arith, same))
 
-module _ (queues : List (AnyQueue Parcel)) (bosses : List AnyPass) (staying : List (AnyQueue Parcel)) (passes : List AnyPass) (queue : AnyQueue Parcel) (boss : AnyPass) (lefts : List Remains) (l : Leaving queues bosses (staying ++ queue ∷ []) (passes ++ boss ∷ []) lefts) where
+module _ {R : Type 0} (queues : List (AnyQueue Parcel R)) (bosses : List AnyPass) (staying : List (AnyQueue Parcel R)) (passes : List AnyPass) (queue : AnyQueue Parcel R) (boss : AnyPass) (lefts : List Remains) (l : Leaving queues bosses (staying ++ queue ∷ []) (passes ++ boss ∷ []) lefts) where
   both : length passes ≡ length staying
   both =
       let same = l.same in
@@ -266,7 +275,7 @@ module _ (queues : List (AnyQueue Parcel)) (bosses : List AnyPass) (staying : Li
 
   -- the last queue that is open stands where the last boss stands
   queue_at : slice_get queues (length staying) ≡ Some queue
-  queue_at = ap (λ (z : List (AnyQueue Parcel)). slice_get z (length staying)) queues_split ∙ get_mid staying queue l.closed
+  queue_at = ap (λ (z : List (AnyQueue Parcel R)). slice_get z (length staying)) queues_split ∙ get_mid staying queue l.closed
 
   boss_at : slice_get bosses (length staying) ≡ Some boss
   boss_at = ap (λ (z : List AnyPass). slice_get z (length staying)) bosses_split ∙ ap (slice_get (passes ++ boss ∷ l.gone)) (sym both) ∙ get_mid passes boss l.gone
@@ -316,3 +325,33 @@ pub all_told_below : (n : ℕ) (olds : List Rest) (lefts : List Remains) (news :
 all_told_below n olds lefts news long t q old new es o l at =
     let low = get_low lefts q es l in
     t.told q old new es (omega (arith, low, long)) o l at
+
+-- Leaving out
+
+pub none_lasting : (olds : List Remains) → LastingBelow 0 olds olds
+none_lasting olds = record { left = λ q old new low. absurd (omega (arith, low)); others = λ q high. refl }
+
+pub one_more_lasting : (n : ℕ) (olds news : List Remains) (was now : Remains) → slice_get news n ≡ Some was → now.items ≡ lasting_in was.items → LastingBelow n olds news → LastingBelow (n + 1) olds (set news n now)
+one_more_lasting n olds news was now here is t = record { left = each; others = others } where
+  first : slice_get olds n ≡ Some was
+  first = sym (t.others n (omega arith)) ∙ here
+
+  each : (q : ℕ) (old new : Remains) → q < n + 1 → slice_get olds q ≡ Some old → slice_get (set news n now) q ≡ Some new → new.items ≡ lasting_in old.items
+  each q old new low o at = ⊎_elim
+      (λ (s : (q ≡ n) × (new ≡ now)).
+      let old_is : was ≡ old = one was old (slice_get olds n) first (ap (slice_get olds) (sym s.0) ∙ o) in
+      subst (λ (z : Remains × Remains). z.0.items ≡ lasting_in z.1.items) (λ i. (sym s.1 i, old_is i)) is)
+      (λ (s : (q ≢ n) × (slice_get news q ≡ Some new)). let ne = s.0 in t.left q old new (omega (arith, low, ne)) o s.1)
+      (get_set news n now new q at)
+
+  others : (q : ℕ) → n + 1 ≤ q → slice_get (set news n now) q ≡ slice_get olds q
+  others q high = set_past news n now q (omega (arith, high)) ∙ t.others q (omega (arith, high))
+
+pub all_lasting : (olds news : List Remains) → length news ≡ length olds → ((q : ℕ) (old new : Remains) → slice_get olds q ≡ Some old → slice_get news q ≡ Some new → new.items ≡ lasting_in old.items) → AllLasting olds news
+all_lasting [] [] long each = tt
+all_lasting [] (new ∷ news) long each = absurd (omega (arith, long))
+all_lasting (old ∷ olds) [] long each = absurd (omega (arith, long))
+all_lasting (old ∷ olds) (new ∷ news) long each = (each 0 old new refl refl, all_lasting olds news (omega (arith, long)) (λ q. each (suc q)))
+
+pub all_lasting_below : (n : ℕ) (olds news : List Remains) → length news ≡ length olds → length olds ≤ n → LastingBelow n olds news → AllLasting olds news
+all_lasting_below n olds news long all t = all_lasting olds news long (λ q old new o e. let low = get_low olds q old o in t.left q old new (omega (arith, low, all)) o e)

@@ -1,4 +1,6 @@
+mod Arriving
 mod Entries
+mod Outdated
 mod Leaving
 mod Leaves
 mod Places

@@ -58,7 +58,7 @@ settled o ds opening none = subst (λ (z : List Deed). Settled (after o z)) (sym
       let free : x.state ≡ Available = all-find (λ (y : Row). y.state ≡ Available) (is_row r) o.rows x opening.available e in
       ((λ gone. let bad : Available ≡ Dequeued = sym free ∙ gone in absurd (cc)), λ h held. let bad : Available ≡ Locked h = sym free ∙ held in absurd (cc))
 
-pub new_last : (defs : List Defined) (lefts : List Remains) (puts : List ℕ) (queues : List (AnyQueue Parcel)) (bosses : List AnyPass) → AreOpened defs lefts puts queues bosses → AreLast bosses
+pub new_last : {R : Type 0} (defs : List Defined) (lefts : List Remains) (puts : List ℕ) (queues : List (AnyQueue Parcel R)) (bosses : List AnyPass) → AreOpened defs lefts puts queues bosses → AreLast bosses
 new_last defs lefts puts queues bosses o = record { last = last; legal = legal } where
   new : (q : ℕ) (boss : AnyPass) → slice_get bosses q ≡ Some boss → (def : Defined) × IsNewBoss def (slice_index puts q) (sight_in boss)
   new q boss e =

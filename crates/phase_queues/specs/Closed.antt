@@ -14,7 +14,7 @@ use Rattle.any_queue.specs.Parting.{IsClosed, IsLast}
 use Rattle.phase_text.specs.declared.logs.Rest.{Rest}
 use Rattle.account_core.specs.Counting.{with_ids}
 use Rattle.account_core.specs.Played.{Played, rest_of}
-use Rattle.phase_queues.specs.Left.{Remains, ids_left, many_left, resting_left}
+use Rattle.phase_queues.specs.Left.{Remains, ids_left, lasting_in, many_left, resting_left}
 
 -- each pass is the last of its queue, and knows a legal history
 pub record AreLast (bosses : List AnyPass) : Type 0 where
@@ -35,15 +35,27 @@ pub record AreOfRows (queues : List Played) (lefts : List Remains) : Type 0 wher
       → ids_left q test lefts ≤ with_ids test (rest_of p).rows
 
 -- these entries are what is left of the queue
-pub record Leaves (queue : AnyQueue Parcel) (boss : AnyPass) (entries : List (RestEntry Parcel)) : Type 0 where
+pub record Leaves {R : Type 0} (queue : AnyQueue Parcel R) (boss : AnyPass) (entries : List (RestEntry Parcel)) : Type 0 where
   pub closed : IsClosed (build_in queue).kind (sight_in boss) (map (left_of load_of) entries)
   pub keys : AllByRecursion (λ e. KeyFits (build_in queue).kind e.slip.key) entries
 
 -- and so of each queue
-abbrev pub AllLeave : List (AnyQueue Parcel) → List AnyPass → List Remains → Type 0
+abbrev pub AllLeave : {R : Type 0} → List (AnyQueue Parcel R) → List AnyPass → List Remains → Type 0
 AllLeave [] [] [] = Unit {0}
 AllLeave (queue ∷ queues) (boss ∷ bosses) (es ∷ lefts) = Leaves queue boss es.items × AllLeave queues bosses lefts
 AllLeave queues bosses lefts = ⊥
+
+-- of each queue's entries those are left that are not outdated
+abbrev pub AllLasting : List Remains → List Remains → Type 0
+AllLasting [] [] = Unit {0}
+AllLasting (old ∷ olds) (new ∷ news) = (new.items ≡ lasting_in old.items) × AllLasting olds news
+AllLasting olds news = ⊥
+
+-- Of the first n queues those are left, and of the others all.
+pub record LastingBelow (n : ℕ) (olds news : List Remains) : Type 0 where
+  pub left : (q : ℕ) (old new : Remains) → q < n
+      → slice_get olds q ≡ Some old → slice_get news q ≡ Some new → new.items ≡ lasting_in old.items
+  pub others : (q : ℕ) → n ≤ q → slice_get news q ≡ slice_get olds q
 
 -- each rest has its name, and now tells of the entries that were left, behind what it told
 abbrev pub TellsMore : List Rest → List Remains → List Rest → Type 0

@@ -8,24 +8,25 @@ use Rattle.defs_read.specs.Defined.{Defined}
 use Rattle.entry_table.specs.Rule.{below}
 use Rattle.any_queue.specs.declared.kinds.AnyPass.{AnyPass}
 use Rattle.any_queue.specs.declared.kinds.AnyQueue.{AnyQueue}
-use Rattle.any_queue.specs.Kinds.{belled_lists, build_in, sight_in, ServesAny}
+use Rattle.any_queue.specs.Kinds.{build_in, built, sight_in, ServesAny}
+use Rattle.any_queue.specs.Parting.{kind_of}
 use Rattle.phase_text.specs.declared.logs.Rest.{Rest}
 use Rattle.account_core.specs.Carry.{Opens}
 use Rattle.account_core.specs.Played.{Played}
 use Rattle.phase_queues.specs.Left.{Remains, left_in, many_left, row_left}
 
 -- what a queue was, as the pass of its boss knows it
-abbrev pub played : AnyQueue Parcel → AnyPass → Played
+abbrev pub played : {R : Type 0} → AnyQueue Parcel R → AnyPass → Played
 played queue boss = record { plan = plan_of (build_in queue) (sight_in boss).opening; history = (sight_in boss).seen }
 
 -- and each queue, with the boss in its place
-abbrev pub all_played : List (AnyQueue Parcel) → List AnyPass → List Played
+abbrev pub all_played : {R : Type 0} → List (AnyQueue Parcel R) → List AnyPass → List Played
 all_played (queue ∷ queues) (boss ∷ bosses) = played queue boss ∷ all_played queues bosses
 all_played queues bosses = []
 
 -- each pass is one of the queue in its place
-abbrev pub AllServed : List (AnyQueue Parcel) → List AnyPass → Type 0
-AllServed queues passes = (q : ℕ) (queue : AnyQueue Parcel) (pass : AnyPass)
+abbrev pub AllServed : {R : Type 0} → List (AnyQueue Parcel R) → List AnyPass → Type 0
+AllServed {R} queues passes = (q : ℕ) (queue : AnyQueue Parcel R) (pass : AnyPass)
     → slice_get queues q ≡ Some queue → slice_get passes q ≡ Some pass → ServesAny queue pass
 
 -- how many rows a queue has room for that opens with so many entries, and to which so many are put: at least one
@@ -48,38 +49,39 @@ pub record IsNewBoss (def : Defined) (puts : ℕ) (s : Sight) : Type 0 where
   pub share : puts ≤ s.share
 
 -- One queue of this definition was opened: with its entries as its rows, and with room for what will be put.
-pub record IsOpened (def : Defined) (entries : List (RestEntry Parcel)) (puts : ℕ)
-    (queue : AnyQueue Parcel) (boss : AnyPass) : Type 0 where
+pub record IsOpened {R : Type 0} (def : Defined) (entries : List (RestEntry Parcel)) (puts : ℕ)
+    (queue : AnyQueue Parcel R) (boss : AnyPass) : Type 0 where
   pub serves : ServesAny queue boss
-  pub build : build_in queue ≡ belled_lists (rows_for (length entries) puts)
+  pub build : build_in queue ≡ built (kind_of def.kind) (rows_for (length entries) puts)
   pub opens : Opens def (map row_left entries) (played queue boss).plan
   pub new : IsNewBoss def puts (sight_in boss)
 
 -- So many queues of the definitions were opened, in order.
-pub record OpenedSoFar (n : ℕ) (defs : List Defined) (lefts : List Remains) (puts : List ℕ)
-    (queues : List (AnyQueue Parcel)) (bosses : List AnyPass) : Type 0 where
+pub record OpenedSoFar {R : Type 0} (n : ℕ) (defs : List Defined) (lefts : List Remains) (puts : List ℕ)
+    (queues : List (AnyQueue Parcel R)) (bosses : List AnyPass) : Type 0 where
   pub as_many : length queues ≡ n
   pub passes : length bosses ≡ n
-  pub each : (q : ℕ) (def : Defined) (queue : AnyQueue Parcel) (boss : AnyPass)
+  pub each : (q : ℕ) (def : Defined) (queue : AnyQueue Parcel R) (boss : AnyPass)
       → slice_get defs q ≡ Some def → slice_get queues q ≡ Some queue → slice_get bosses q ≡ Some boss
       → IsOpened def (left_in q lefts) (slice_index puts q) queue boss
 
 -- The queues of these definitions were made, each with room for what was left and what will be put, and for each the
 -- pass of its boss. With which rows they opened is said apart.
-pub record AreOpened (defs : List Defined) (lefts : List Remains) (puts : List ℕ)
-    (queues : List (AnyQueue Parcel)) (bosses : List AnyPass) : Type 0 where
+pub record AreOpened {R : Type 0} (defs : List Defined) (lefts : List Remains) (puts : List ℕ)
+    (queues : List (AnyQueue Parcel R)) (bosses : List AnyPass) : Type 0 where
   pub as_many : length queues ≡ length defs
   pub passes : length bosses ≡ length defs
   pub serves : AllServed queues bosses
-  pub builds : (q : ℕ) (queue : AnyQueue Parcel) → slice_get queues q ≡ Some queue
-      → build_in queue ≡ belled_lists (rows_for (many_left q lefts) (slice_index puts q))
+  pub builds : (q : ℕ) (def : Defined) (queue : AnyQueue Parcel R)
+      → slice_get defs q ≡ Some def → slice_get queues q ≡ Some queue
+      → build_in queue ≡ built (kind_of def.kind) (rows_for (many_left q lefts) (slice_index puts q))
   pub new : (q : ℕ) (def : Defined) (boss : AnyPass)
       → slice_get defs q ≡ Some def → slice_get bosses q ≡ Some boss
       → IsNewBoss def (slice_index puts q) (sight_in boss)
 
 -- there is room to tell of each row of each queue
-abbrev pub RestsHold : List Rest → List (AnyQueue Parcel) → Type 0
-RestsHold rests queues = (q : ℕ) (rest : Rest) (queue : AnyQueue Parcel)
+abbrev pub RestsHold : {R : Type 0} → List Rest → List (AnyQueue Parcel R) → Type 0
+RestsHold {R} rests queues = (q : ℕ) (rest : Rest) (queue : AnyQueue Parcel R)
     → slice_get rests q ≡ Some rest → slice_get queues q ≡ Some queue
     → (build_in queue).rows ≤ vec_capacity rest.entries
 

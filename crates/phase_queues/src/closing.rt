@@ -5,8 +5,8 @@ ghost use Rattle.defs_read.specs.Defined.{Defined};
 ghost use Rattle.account_core.specs.Carry.{handed_on};
 ghost use Rattle.account_core.specs.Phases.{AllOpen};
 ghost use Rattle.account_core.specs.Texts.{RestsTell, holder_of, queue_names};
-ghost use Rattle.phase_queues.specs.Closed.{AllLeave, AreLast, AreOfRows, NoOthers, RestsFit, TellsMore};
-ghost use Rattle.phase_queues.specs.Left.{AllMayStay, resting_left, rows_left};
+ghost use Rattle.phase_queues.specs.Closed.{AllLasting, AllLeave, AreLast, AreOfRows, NoOthers, RestsFit, TellsMore};
+ghost use Rattle.phase_queues.specs.Left.{AllMayStay, lasting_in, resting_left, rows_left};
 ghost use Rattle.phase_queues.specs.Opened.{AllServed, RestsHold, TellNothing, all_played, rest_names};
 
 use acts_core::RestEntry;
@@ -14,13 +14,14 @@ use any_queue::{AnyPass, AnyQueue};
 use phase_text::Rest;
 use queue_model::RowState;
 use report_core::Resting;
+use std::sync::Wait;
 use txn_core::Parcel;
 
 /// Closes the queues of a phase, into whose bosses the passes of all callers were joined: tells of each
-/// queue what it holds, and hands on the entries themselves, both in queue order. Takes no memory: the room is
-/// that of `open_queues`.
-pub fn close_queues(
-    queues: Vec<AnyQueue<Parcel>>,
+/// queue what it holds, and hands on the entries themselves, both in queue order, but for those of a last-value
+/// queue of whose key a later one has come. Takes no memory: the room is that of `open_queues`.
+pub fn close_queues<R: Wait + Drop>(
+    queues: Vec<AnyQueue<Parcel, R>>,
     bosses: Vec<AnyPass>,
     rests: &mut Vec<Rest>,
     left: &mut Vec<Vec<RestEntry<Parcel>>>,
@@ -34,8 +35,9 @@ pub fn close_queues(
     requires left { (left.old.items ≡ []) × (vec_len queues ≤ vec_capacity left.old) }
     ensures told { (defs : List Defined) → rest_names rests.old.items ≡ queue_names defs
         → RestsTell rests.new.items defs (all_played queues.items bosses.items) }
-    ensures left { rows_left left.new.items
-        ≡ map handed_on (all_played queues.items bosses.items) }
+    ensures left { (defs : List Defined) (rows : List (List Row))
+        → AllOpen defs rows (all_played queues.items bosses.items)
+        → rows_left left.new.items ≡ map handed_on (all_played queues.items bosses.items) }
     ensures stay { (defs : List Defined) (rows : List (List Row))
         → AllOpen defs rows (all_played queues.items bosses.items)
         → AllMayStay defs left.new.items }
@@ -44,11 +46,12 @@ pub fn close_queues(
 {
     close_all(queues, bosses, left);
     tell_all(rests, left.as_slice());
+    leave_out_all(left);
 }
 
 // Closes the queues, from the last one on, and puts what they leave into their order.
-fn close_all(
-    queues: Vec<AnyQueue<Parcel>>,
+fn close_all<R: Wait + Drop>(
+    queues: Vec<AnyQueue<Parcel, R>>,
     bosses: Vec<AnyPass>,
     left: &mut Vec<Vec<RestEntry<Parcel>>>,
 )
@@ -67,6 +70,22 @@ fn close_all(
         }
     }
     left.as_mut_slice().reverse();
+}
+
+// Leaves out of each queue's entries those that are outdated.
+fn leave_out_all(left: &mut Vec<Vec<RestEntry<Parcel>>>)
+    ensures { AllLasting left.old.items left.new.items }
+{
+    for at in 0..left.len() {
+        leave_out(&mut left[at]);
+    }
+}
+
+// Leaves out the entries that are outdated.
+fn leave_out(entries: &mut Vec<RestEntry<Parcel>>)
+    ensures { entries.new.items ≡ lasting_in entries.old.items }
+{
+    entries.retain(|entry| !entry.outdated);
 }
 
 // Tells of each queue what it left.

@@ -1,14 +1,12 @@
 //! Queues that are opened.
 ghost use Rattle.std.specs.Prelude.{[], ◌≡◌, ◌+◌, ◌<◌, ◌≤◌, IfOk, length, vec_capacity, vec_len};
-ghost use Rattle.std.specs.List.{AllByRecursion};
 ghost use Rattle.queue_model.specs.Table.{most_entries};
-ghost use Rattle.defs_read.specs.Allowed.{AreAllowed};
+ghost use Rattle.defs_read.specs.Allowed.{AreAllowed, HasPriorities};
 ghost use Rattle.defs_read.specs.Causes.{most_consumers};
 ghost use Rattle.defs_read.specs.Defined.{defined, queues_in};
-ghost use Rattle.any_queue.specs.Parting.{IsOfLists};
 ghost use Rattle.account_core.specs.Phases.{AllOpen};
 ghost use Rattle.account_core.specs.Texts.{queue_names};
-ghost use Rattle.phase_queues.specs.Left.{AllMayStay, AreCarried, MayStay, rows_left};
+ghost use Rattle.phase_queues.specs.Left.{AllMayStay, AreCarried, MayGoOn, rows_left};
 ghost use Rattle.phase_queues.specs.Opened.{AreOpened, HasRoom, HoldRows, IsOpened, OpenedSoFar, RestsHold};
 ghost use Rattle.phase_queues.specs.Opened.{TellNothing, all_played, rest_names, rows_for};
 
@@ -19,13 +17,14 @@ use defs_read::{Defs, QueueDef};
 use phase_text::Rest;
 use queue_model::Slip;
 use std::alloc::Global;
+use std::sync::Wait;
 use txn_core::Parcel;
 
 /// The queues of a phase, in the order of their definitions, with the pass of each queue's boss; and room for
 /// what is to be told of them in the end, and for what they leave.
 #[derive(Drop)]
-pub struct Opened {
-    pub queues: Vec<AnyQueue<Parcel>>,
+pub struct Opened<R: Wait + Drop> {
+    pub queues: Vec<AnyQueue<Parcel, R>>,
     pub bosses: Vec<AnyPass>,
     /// Each queue's name, with no entries, and room for all rows that the queue may have.
     pub rests: Vec<Rest>,
@@ -34,17 +33,17 @@ pub struct Opened {
 }
 
 /// Opens the queues of a phase: each with the entries that the phase before left of it, in their order,
-/// available, and without their receipts; and with room for as many more as will be put to it. The definitions
-/// are of standard and priority queues alone. Takes all memory that the queues need until they are closed, and
-/// refuses only for want of it; then the entries are dropped.
-pub fn open_queues(
+/// available, and without their receipts; and with room for as many more as will be put to it. The calls of
+/// sorted and last-value queues wait by a copy of the handle. Takes all memory that the queues need until they are
+/// closed, and refuses only for want of it; then the entries are dropped.
+pub fn open_queues<R: Wait + Clone + Drop>(
+    rt: &R,
     alloc: Global,
     defs: &Defs,
     left: Vec<Vec<RestEntry<Parcel>>>,
     puts: &[u64],
-) -> Result<Opened, NoMemory>
+) -> Result<Opened<R>, NoMemory>
     requires allowed { AreAllowed (queues_in defs.now) }
-    requires lists { AllByRecursion (λ d. IsOfLists d.kind) (queues_in defs.now) }
     requires stay { AllMayStay (queues_in defs.now) left.items }
     requires puts { length puts.now ≡ length (queues_in defs.now) }
     requires room { HasRoom left.items puts.now }
@@ -62,7 +61,7 @@ pub fn open_queues(
         return Err(NoMemory);
     };
     let rests = blank_rests(alloc, defs, left.as_slice(), puts)?;
-    let (queues, bosses) = open_all(alloc, defs, left, puts)?;
+    let (queues, bosses) = open_all(rt, alloc, defs, left, puts)?;
     Ok(Opened {
         queues,
         bosses,
@@ -118,14 +117,14 @@ fn blank_rest(alloc: Global, name: &Bytes, rows: u64) -> Result<Rest, NoMemory>
 }
 
 // The queues, each with its entries, and their bosses' passes.
-fn open_all(
+fn open_all<R: Wait + Clone + Drop>(
+    rt: &R,
     alloc: Global,
     defs: &Defs,
     left: Vec<Vec<RestEntry<Parcel>>>,
     puts: &[u64],
-) -> Result<(Vec<AnyQueue<Parcel>>, Vec<AnyPass>), NoMemory>
+) -> Result<(Vec<AnyQueue<Parcel, R>>, Vec<AnyPass>), NoMemory>
     requires allowed { AreAllowed (queues_in defs.now) }
-    requires lists { AllByRecursion (λ d. IsOfLists d.kind) (queues_in defs.now) }
     requires stay { AllMayStay (queues_in defs.now) left.items }
     requires puts { length puts.now ≡ length (queues_in defs.now) }
     requires room { HasRoom left.items puts.now }
@@ -140,7 +139,7 @@ fn open_all(
     };
     for entries in left {
         let at = queues.len();
-        let (queue, boss) = open_queue(alloc, &defs.queues[at], entries, puts[at])?;
+        let (queue, boss) = open_queue(rt, alloc, &defs.queues[at], entries, puts[at])?;
         queues.push_reserved(queue);
         bosses.push_reserved(boss);
     }
@@ -148,21 +147,25 @@ fn open_all(
 }
 
 // A queue with its entries, with room for so many puts.
-fn open_queue(
+fn open_queue<R: Wait + Clone + Drop>(
+    rt: &R,
     alloc: Global,
     def: &QueueDef,
     entries: Vec<RestEntry<Parcel>>,
     puts: u64,
-) -> Result<(AnyQueue<Parcel>, AnyPass), NoMemory>
-    requires kind { IsOfLists def.now.kind }
+) -> Result<(AnyQueue<Parcel, R>, AnyPass), NoMemory>
+    requires lists { HasPriorities def.now.kind }
     requires consumers { vec_len def.now.consumers ≤ most_consumers }
-    requires stay { AllByRecursion (MayStay (defined def.now)) entries.items }
+    requires stay { MayGoOn (defined def.now) entries.items }
     requires room { length entries.items + puts ≤ most_entries }
     ensures { IfOk result (λ o. IsOpened (defined def.now) entries.items puts o.0 o.1) }
 {
     let rows = rows_for(entries.len(), puts);
     let start = start_of(alloc, entries)?;
-    AnyQueue::make(alloc, def, rows, start)
+    match rt.clone() {
+        Ok(handle) => AnyQueue::make(handle, alloc, def, rows, start),
+        Err(_) => Err(NoMemory),
+    }
 }
 
 // What was left of a queue, as it starts again: in its order, and without receipts.

@@ -14,6 +14,7 @@ use phase_text::Rest;
 use queue_model::{RowState, Slip};
 use report_core::Resting;
 use std::alloc::Global;
+use std::sync::Wait;
 use std::test::Fail;
 use txn_core::Parcel;
 
@@ -52,7 +53,8 @@ fn entry(alloc: Global, list: u32, id: u64, state: RowState) -> Result<RestEntry
 }
 
 // What is told and left of the queue, where it is opened with these entries and closed at once.
-fn there_and_back(
+fn there_and_back<R: Wait + Clone + Drop>(
+    rt: &R,
     alloc: Global,
     entries: Vec<RestEntry<Parcel>>,
 ) -> Result<(Vec<Rest>, Vec<Vec<RestEntry<Parcel>>>), Fail>
@@ -61,7 +63,7 @@ fn there_and_back(
 {
     let defs = definitions(alloc)?;
     let before = vec![in alloc; entries]?;
-    let opened = open_queues(alloc, &defs, before, &[3])?;
+    let opened = open_queues(rt, alloc, &defs, before, &[3])?;
     let Opened {
         queues,
         bosses,
@@ -83,7 +85,7 @@ fn entries_of_three_lists_go_on_by_list(rt: HostRuntime) -> Result<(), Fail> {
     let third = entry(alloc, 1, 3, HELD)?;
     let fourth = entry(alloc, 2, 4, RowState::Available)?;
     let entries = vec![in alloc; first, second, third, fourth]?;
-    let (rests, left) = there_and_back(alloc, entries)?;
+    let (rests, left) = there_and_back(&rt, alloc, entries)?;
     assert_eq!(rt; (rests.len(), left.len()), (1, 1));
     for rest in &rests {
         assert_eq!(rt; rest.name.as_slice(), b"p".as_slice());
@@ -114,7 +116,7 @@ fn entries_of_three_lists_go_on_by_list(rt: HostRuntime) -> Result<(), Fail> {
 #[test]
 fn ample(rt: HostRuntime) -> Result<(), Fail> {
     let alloc = rt.alloc();
-    let (rests, left) = there_and_back(alloc, Vec::new(alloc))?;
+    let (rests, left) = there_and_back(&rt, alloc, Vec::new(alloc))?;
     assert_eq!(rt; (rests.len(), left.len()), (1, 1));
     Ok(())
 }

@@ -1,5 +1,5 @@
 //! The queue.
-ghost use Rattle.std.specs.Prelude.{IfOk, ◌≤◌, vec_len};
+ghost use Rattle.std.specs.Prelude.{IfOk, OnErr, OnOk, ◌≡◌, ◌≤◌, vec_len};
 ghost use Rattle.queue_model.specs.Table.{most_entries};
 ghost use Rattle.kept_rows.specs.Starting.{AllMayStart, IsMade};
 
@@ -8,7 +8,7 @@ use byte_lists::NoMemory;
 use kept_rows::KeptRows;
 use queue_model::Slip;
 use row_order::KeyOrder;
-use std::alloc::Global;
+use std::alloc::{AllocError, Global};
 use std::marker::Model;
 
 /// A queue whose entries are handed out by key in byte order, those of one key by arrival, and those without
@@ -37,5 +37,14 @@ impl<C: Freight> Sorted<C> {
         Ok(Sorted {
             rows: KeptRows::make(alloc, start)?,
         })
+    }
+
+    /// The spare becomes so many rows. Where there is no memory for them, nothing changes.
+    pub fn grow(&mut self, rows: u64) -> Result<(), AllocError>
+        requires { self.old.spare ≤ rows }
+        ensures ok { OnOk result (self.new ≡ record self.old { spare = rows }) }
+        ensures err { OnErr result (self.new ≡ self.old) }
+    {
+        self.rows.make_room(rows)
     }
 }

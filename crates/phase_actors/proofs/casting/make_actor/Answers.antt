@@ -11,7 +11,7 @@ use Rattle.phase_actors.proofs.Parting.{all_may_part, may_put, passes_for}
 use Rattle.phase_actors.proofs.casting.make_actor.Goals as goal
 
 pub split_all-requires-clause-may : goal.split_all-requires-clause-may
-split_all-requires-clause-may g c =
+split_all-requires-clause-may g c κs within =
     rw c.deref-2.ensures.value (all_may_part (queues_in c.args.defs.now) c.args.name c.args.ops.items [] c.args.number (map sight_in c.args.bosses.now.items) c.requires.number c.requires.may)
 
 pub move_targets-requires-clause-numbers : goal.move_targets-requires-clause-numbers
@@ -19,7 +19,7 @@ move_targets-requires-clause-numbers g c =
     rw c.deref-3.ensures.value (all_within (queues_in c.args.defs.now) _ c.args.name c.args.ops.items c.requires.allowed c.requires.own)
 
 pub make-requires-clause-passes : goal.make-requires-clause-passes
-make-requires-clause-passes g c κs =
+make-requires-clause-passes g c κs within =
     let defs = queues_in c.args.defs.now in
     let olds = map sight_in c.args.bosses.now.items in
     let news = map sight_in c.split_all.new.bosses.items in
@@ -29,7 +29,7 @@ make-requires-clause-passes g c κs =
     passes_for defs c.args.name c.args.ops.items [] c.args.number olds news passes as_many split c.requires.may
 
 pub make-requires-clause-rights : goal.make-requires-clause-rights
-make-requires-clause-rights g c κs =
+make-requires-clause-rights g c κs within =
     let defs = queues_in c.args.defs.now in
     let olds = map sight_in c.args.bosses.now.items in
     let news = map sight_in c.split_all.new.bosses.items in

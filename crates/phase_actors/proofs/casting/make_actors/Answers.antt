@@ -29,7 +29,7 @@ actors-init g c =
     }
 
 pub make_actor-requires-clause-own : goal.make_actor-requires-clause-own
-make_actor-requires-clause-own g c =
+make_actor-requires-clause-own g c κs within =
     let bosses = c.args.bosses.now.items in
     let long : length (map sight_in bosses) ≡ length (queues_in c.args.defs.now) = omega (arith, map_length sight_in bosses, c.requires.bosses, c.args.bosses.now.ok) in
     let rest = left_of (into_iter_items c.next.new.self) in
@@ -37,7 +37,7 @@ make_actor-requires-clause-own g c =
     (ap left_of c.in-Some.ensures.steps.0) c.requires.phase.own c.actors.invariant.cast).own
 
 pub make_actor-requires-clause-served : goal.make_actor-requires-clause-served
-make_actor-requires-clause-served g c =
+make_actor-requires-clause-served g c κs within =
     let bosses = c.args.bosses.now.items in
     let long : length (map sight_in bosses) ≡ length (queues_in c.args.defs.now) = omega (arith, map_length sight_in bosses, c.requires.bosses, c.args.bosses.now.ok) in
     let rest = left_of (into_iter_items c.next.new.self) in
@@ -45,7 +45,7 @@ make_actor-requires-clause-served g c =
     (ap left_of c.in-Some.ensures.steps.0) c.requires.served c.actors.invariant.cast
 
 pub make_actor-requires-clause-number : goal.make_actor-requires-clause-number
-make_actor-requires-clause-number g c =
+make_actor-requires-clause-number g c κs within =
     let bosses = c.args.bosses.now.items in
     let long : length (map sight_in bosses) ≡ length (queues_in c.args.defs.now) = omega (arith, map_length sight_in bosses, c.requires.bosses, c.args.bosses.now.ok) in
     let rest = left_of (into_iter_items c.next.new.self) in
@@ -53,7 +53,7 @@ make_actor-requires-clause-number g c =
     (ap left_of c.in-Some.ensures.steps.0) c.requires.phase.few c.actors.invariant.cast
 
 pub make_actor-requires-clause-may : goal.make_actor-requires-clause-may
-make_actor-requires-clause-may g c =
+make_actor-requires-clause-may g c κs within =
     let bosses = c.args.bosses.now.items in
     let long : length (map sight_in bosses) ≡ length (queues_in c.args.defs.now) = omega (arith, map_length sight_in bosses, c.requires.bosses, c.args.bosses.now.ok) in
     let rest = left_of (into_iter_items c.next.new.self) in

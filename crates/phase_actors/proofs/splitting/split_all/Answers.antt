@@ -9,7 +9,7 @@ use Rattle.phase_actors.proofs.Splits.{Splitting, def_at, few_consumers, one_spl
 use Rattle.phase_actors.proofs.splitting.split_all.Goals as goal
 
 pub split_one-requires-clause-few : goal.split_one-requires-clause-few
-split_one-requires-clause-few c =
+split_one-requires-clause-few g c κs within =
     let i = c.queues.number in
     let defs = c.args.defs.now.queues.items in
     let def = c.index-def.result.now in
@@ -17,7 +17,7 @@ split_one-requires-clause-few c =
     omega (arith, few_consumers defs i def c.requires.allowed (read_at defs i def low c.index-def.ensures), def.consumers.ok)
 
 pub split_one-requires-clause-serves : goal.split_one-requires-clause-serves
-split_one-requires-clause-serves c =
+split_one-requires-clause-serves g c κs within =
     let i = c.queues.number in
     let bosses = c.queues.bosses.items in
     let queue_at = read_at c.args.queues.now i c.index-queues-number.result c.queues-test.true c.index-queues-number.is in
@@ -26,7 +26,7 @@ split_one-requires-clause-serves c =
     c.queues.invariant.serve i c.index-queues-number.result c.index_mut-boss.result.now queue_at boss_at
 
 pub split_one-requires-clause-may : goal.split_one-requires-clause-may
-split_one-requires-clause-may c =
+split_one-requires-clause-may g c κs within =
     let i = c.queues.number in
     let bosses = c.queues.bosses.items in
     let defs = c.args.defs.now.queues.items in
@@ -40,7 +40,7 @@ split_one-requires-clause-may c =
     c.requires.may i _ (sight_in c.index_mut-boss.result.now) def_there (sym old ∙ map_at sight_in bosses i c.index_mut-boss.result.now boss_at)
 
 pub queues-preserved : goal.queues-preserved
-queues-preserved c =
+queues-preserved g c =
     let i = c.queues.number in
     let v = c.queues.invariant in
     let bosses = c.queues.bosses.items in

@@ -6,7 +6,7 @@ use Rattle.phase_actors.proofs.Splits.{Splitting}
 use Rattle.phase_actors.proofs.splitting.split_all.Given as goal
 
 abbrev pub invariant-queues : goal.invariant-queues
-invariant-queues l = record {
+invariant-queues g l = record {
   many : vec_len l.passes ≡ l.number;
   bosses : vec_len l.bosses ≡ length l.queues;
   room : length l.queues ≤ vec_capacity l.passes;

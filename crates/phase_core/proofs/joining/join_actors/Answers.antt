@@ -23,7 +23,7 @@ actors-init g c = record {
 }
 
 pub join_actor-log-requires-clause-one_each : goal.join_actor-log-requires-clause-one_each
-join_actor-log-requires-clause-one_each g c =
+join_actor-log-requires-clause-one_each g c κs within =
     let i = c.actors.invariant in
     let actor = c.in-Some.actor in
     let at = at_next c.args.actors.items (reverse c.pop.new.self.items) i.done actor (next_of c.args.actors.items c.actors.actors.items c.pop.new.self.items i.done actor i.left c.in-Some.ensures.items) in
@@ -31,13 +31,13 @@ join_actor-log-requires-clause-one_each g c =
     omega (arith, of.as_many, length-map actor.passes.items sight_in, length-map c.args.bosses.now.items sight_in, actor.passes.ok.0, c.args.bosses.now.ok.0, c.requires.as_many)
 
 pub join_actor-log-requires-clause-serves : goal.join_actor-log-requires-clause-serves
-join_actor-log-requires-clause-serves g c =
+join_actor-log-requires-clause-serves g c κs within =
     let i = c.actors.invariant in
     let actor = c.in-Some.actor in
     c.requires.serves i.done actor (at_next c.args.actors.items (reverse c.pop.new.self.items) i.done actor (next_of c.args.actors.items c.actors.actors.items c.pop.new.self.items i.done actor i.left c.in-Some.ensures.items))
 
 pub join_actor-log-requires-clause-openings : goal.join_actor-log-requires-clause-openings
-join_actor-log-requires-clause-openings g c =
+join_actor-log-requires-clause-openings g c κs within =
     let i = c.actors.invariant in
     let actor = c.in-Some.actor in
     let at = at_next c.args.actors.items (reverse c.pop.new.self.items) i.done actor (next_of c.args.actors.items c.actors.actors.items c.pop.new.self.items i.done actor i.left c.in-Some.ensures.items) in

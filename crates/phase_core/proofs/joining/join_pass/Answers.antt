@@ -9,14 +9,14 @@ use Rattle.workers_core.proofs.Ones.{serve_after, set_here, set_other}
 use Rattle.phase_core.proofs.joining.join_pass.Goals as goal
 
 pub join-requires-clause-history : goal.join-requires-clause-history
-join-requires-clause-history c =
+join-requires-clause-history g c κs within =
     let bosses = c.args.bosses.now.items in
     let within : c.args.number < length bosses = omega (arith, c.requires.within, c.requires.as_many, c.args.bosses.now.ok.0) in
     let boss_at = read_at bosses c.args.number c.index_mut-boss.result.now within c.index_mut-boss.ensures.value in
     c.requires.opening (sight_in c.index_mut-boss.result.now) (map_at sight_in bosses c.args.number c.index_mut-boss.result.now boss_at)
 
 pub returns-clause-serve : goal.returns-clause-serve
-returns-clause-serve c =
+returns-clause-serve g c =
     let bosses = c.args.bosses.now.items in
     let within : c.args.number < length bosses = omega (arith, c.requires.within, c.requires.as_many, c.args.bosses.now.ok.0) in
     let boss_at = read_at bosses c.args.number c.index_mut-boss.result.now within c.index_mut-boss.ensures.value in
@@ -24,7 +24,7 @@ returns-clause-serve c =
     serve_after ServesAny c.args.queues.now bosses c.args.number c.index-queues-number.result c.index_mut-boss.result.now c.join.new.into c.requires.serve queue_at boss_at c.join.ensures.serves
 
 pub returns-clause-joined : goal.returns-clause-joined
-returns-clause-joined c = λ s t at_s at_t.
+returns-clause-joined g c = λ s t at_s at_t.
     let bosses = c.args.bosses.now.items in
     let within : c.args.number < length bosses = omega (arith, c.requires.within, c.requires.as_many, c.args.bosses.now.ok.0) in
     let boss_at = read_at bosses c.args.number c.index_mut-boss.result.now within c.index_mut-boss.ensures.value in
@@ -33,7 +33,7 @@ returns-clause-joined c = λ s t at_s at_t.
     subst (λ (z : Sight). IsJoined z (sight_in c.args.pass) t) was (subst (IsJoined (sight_in c.index_mut-boss.result.now) (sight_in c.args.pass)) now c.join.ensures.joined)
 
 pub returns-clause-others : goal.returns-clause-others
-returns-clause-others c = λ q apart.
+returns-clause-others g c = λ q apart.
     let bosses = c.args.bosses.now.items in
     slice_get-map sight_in (slice_set bosses c.args.number c.join.new.into) q
     ∙ ap (option_map sight_in) (set_other bosses c.args.number q c.join.new.into apart)

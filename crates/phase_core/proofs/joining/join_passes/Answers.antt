@@ -10,7 +10,7 @@ use Rattle.phase_core.proofs.Places.{popped_at, rest_at}
 use Rattle.phase_core.proofs.joining.join_passes.Goals as goal
 
 pub join_pass-requires-clause-opening : goal.join_pass-requires-clause-opening
-join_pass-requires-clause-opening c = λ s at.
+join_pass-requires-clause-opening g c κs within = λ s at.
     let number = c.len.result in
     let is : number ≡ length c.pop.new.self.items = omega (arith, c.len.ensures, c.pop.new.self.ok.0) in
     let here = c.passes.invariant.left number c.in-Some.pass (popped_at c.passes.passes.items c.pop.new.self.items c.in-Some.pass number c.in-Some.ensures.items is) in
@@ -18,13 +18,13 @@ join_pass-requires-clause-opening c = λ s at.
     c.requires.openings number s (sight_in c.in-Some.pass) (sym (c.passes.invariant.kept number less) ∙ at) (map_at sight_in c.args.passes.items number c.in-Some.pass here)
 
 pub join_pass-requires-clause-serves : goal.join_pass-requires-clause-serves
-join_pass-requires-clause-serves c = λ queue at.
+join_pass-requires-clause-serves g c κs within = λ queue at.
     let number = c.len.result in
     let is : number ≡ length c.pop.new.self.items = omega (arith, c.len.ensures, c.pop.new.self.ok.0) in
     c.requires.serves number queue c.in-Some.pass at (c.passes.invariant.left number c.in-Some.pass (popped_at c.passes.passes.items c.pop.new.self.items c.in-Some.pass number c.in-Some.ensures.items is))
 
 pub passes-preserved : goal.passes-preserved
-passes-preserved c =
+passes-preserved g c =
     let i = c.passes.invariant in
     let number = c.len.result in
     let pass = c.in-Some.pass in
@@ -49,7 +49,7 @@ passes-preserved c =
     }
 
 pub returns-clause-joined : goal.returns-clause-joined
-returns-clause-joined c =
+returns-clause-joined g c =
     let i = c.passes.invariant in
     let none : vec_len c.passes.passes ≡ 0 = c.in_default.ensures.cases.0 in
     record {

@@ -8,7 +8,7 @@ use Rattle.phase_core.proofs.joining.join_passes.Given as goal
 
 -- the passes that are left are the first ones, whose bosses' are as they were; those behind were joined
 abbrev pub invariant-passes : goal.invariant-passes
-invariant-passes l = record {
+invariant-passes g l = record {
   as_many : length l.queues ≡ vec_len l.bosses;
   many : vec_len l.bosses ≡ vec_len l.fn.bosses;
   serve : AllServe ServesAny l.queues l.bosses.items;
@@ -19,4 +19,4 @@ invariant-passes l = record {
 }
 
 abbrev pub decreases-passes : goal.decreases-passes
-decreases-passes l = vec_len l.passes
+decreases-passes g l = vec_len l.passes

@@ -12,7 +12,7 @@ use Rattle.phase_core.proofs.Tales.{after_run, played_of}
 use Rattle.phase_core.proofs.phases.play_actors.Goals as goal
 
 pub join_actors-requires-clause-serves : goal.join_actors-requires-clause-serves
-join_actors-requires-clause-serves g c = λ i a at.
+join_actors-requires-clause-serves g c κs within = λ i a at.
     let ran = c.run_phase.new.actors in
     let all = c.args.actors.items in
     let many : length ran ≡ c.args.actors.len = omega (arith, c.run_phase.auto.actors, c.deref_mut.ensures.len, c.args.actors.ok.0) in
@@ -23,7 +23,7 @@ join_actors-requires-clause-serves g c = λ i a at.
     subst (λ z. AllServe ServesAny c.args.queues.now z.passes.items) (get_or_from_slice_get ran i a a at_ran) (runs i a less).0
 
 pub join_actors-requires-clause-passes : goal.join_actors-requires-clause-passes
-join_actors-requires-clause-passes g c = λ i a at.
+join_actors-requires-clause-passes g c κs within = λ i a at.
     let ran = c.run_phase.new.actors in
     let all = c.args.actors.items in
     let bosses = map sight_in c.args.bosses.now.items in

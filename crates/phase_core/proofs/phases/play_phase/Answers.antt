@@ -40,9 +40,6 @@ returns-in_default-clause-kept g c = λ p. same_target _
 pub open_queues-requires-clause-allowed : goal.open_queues-requires-clause-allowed
 open_queues-requires-clause-allowed g c = c.requires.allowed
 
-pub open_queues-requires-clause-lists : goal.open_queues-requires-clause-lists
-open_queues-requires-clause-lists g c = c.requires.lists
-
 pub open_queues-requires-clause-stay : goal.open_queues-requires-clause-stay
 open_queues-requires-clause-stay g c = c.requires.stay
 
@@ -60,28 +57,25 @@ returns-in_err-opened-clause-kept g c = search (rules, on_err, same_seats)
 -- Actors
 
 pub make_actors-requires-clause-allowed : goal.make_actors-requires-clause-allowed
-make_actors-requires-clause-allowed g c = c.requires.allowed
-
-pub make_actors-requires-clause-lists : goal.make_actors-requires-clause-lists
-make_actors-requires-clause-lists g c = c.requires.lists
+make_actors-requires-clause-allowed g c κs within = c.requires.allowed
 
 pub make_actors-requires-clause-phase : goal.make_actors-requires-clause-phase
-make_actors-requires-clause-phase g c = c.requires.phase
+make_actors-requires-clause-phase g c κs within = c.requires.phase
 
 pub make_actors-requires-clause-served : goal.make_actors-requires-clause-served
-make_actors-requires-clause-served g c = c.requires.served
+make_actors-requires-clause-served g c κs within = c.requires.served
 
 pub make_actors-requires-clause-queues : goal.make_actors-requires-clause-queues
-make_actors-requires-clause-queues g c = ap length c.deref-2.ensures.value ∙ c.in_ok-opened.ensures.opened.as_many
+make_actors-requires-clause-queues g c κs within = ap length c.deref-2.ensures.value ∙ c.in_ok-opened.ensures.opened.as_many
 
 pub make_actors-requires-clause-bosses : goal.make_actors-requires-clause-bosses
-make_actors-requires-clause-bosses g c = omega (arith, c.in_ok-opened.ensures.opened.passes, c.in_ok-opened.opened.bosses.ok.0)
+make_actors-requires-clause-bosses g c κs within = omega (arith, c.in_ok-opened.ensures.opened.passes, c.in_ok-opened.opened.bosses.ok.0)
 
 pub make_actors-requires-clause-serve : goal.make_actors-requires-clause-serve
-make_actors-requires-clause-serve g c = rw c.deref-2.ensures.value c.in_ok-opened.ensures.opened.serves
+make_actors-requires-clause-serve g c κs within = rw c.deref-2.ensures.value c.in_ok-opened.ensures.opened.serves
 
 pub make_actors-requires-clause-may : goal.make_actors-requires-clause-may
-make_actors-requires-clause-may g c =
+make_actors-requires-clause-may g c κs within =
     may_cast (queues_in c.args.defs.now) c.args.left.items c.deref.result.now c.in_ok-opened.opened.queues.items c.in_ok-opened.opened.bosses.items c.in_ok-opened.ensures.opened
     (rows_left c.args.left.items) (actors_in c.args.phase) c.in_ok-opened.ensures.opens (rw c.deref.ensures.value c.in_ok-puts.ensures.each)
 
@@ -103,12 +97,12 @@ rows_of-rows-requires-clause-room g c =
     rw c.as_slice.ensures.value (rw c.as_slice-2.ensures.value room)
 
 pub make_actors-requires-clause-rows : goal.make_actors-requires-clause-rows
-make_actors-requires-clause-rows g c =
+make_actors-requires-clause-rows g c κs within =
     let many = lefts_many (queues_in c.args.defs.now) c.args.left.items c.requires.stay in
     let all = rw c.deref.ensures.value at (opened_rows (queues_in c.args.defs.now) c.args.left.items c.deref.result.now c.in_ok-opened.opened.queues.items c.in_ok-opened.opened.bosses.items c.in_ok-opened.ensures.opened many) in
     let counted = rw c.as_slice.ensures.value at (rw c.as_slice-2.ensures.value at c.rows_of-rows.ensures) in
-    let within : all_rows (map build_in c.in_ok-opened.opened.queues.items) ≤ c.rows_of-rows.result = omega (arith, all, counted) in
-    rw c.deref-2.ensures.value within
+    let few : all_rows (map build_in c.in_ok-opened.opened.queues.items) ≤ c.rows_of-rows.result = omega (arith, all, counted) in
+    rw c.deref-2.ensures.value few
 
 pub returns-in_err-actors-clause-kept : goal.returns-in_err-actors-clause-kept
 returns-in_err-actors-clause-kept g c = search (rules, on_err, c.in_err-actors.ensures.kept)
@@ -221,6 +215,7 @@ returns-clause-plays g c =
     (played.lines ∙ sym made.lines) played.begun (λ i a at. (made.cast i a at).1.targets) in
     let go = seats_go defs false actors played.stories _ _ _ story_serves c.requires.phase played.lines played.fit has made.roster played.returned in
     plays_phase defs c.args.left.items actors _ queues opened begun lasts _ _ _ many ready.opens made.bosses.openings numbered c.requires.once played settles rows_count few_entered opens_count closed_played states_named _ _ refl c.requires.phase go
-    (c.close_queues.ensures.told defs ready.names) c.close_queues.ensures.left
+    (c.close_queues.ensures.told defs ready.names)
+    (c.close_queues.ensures.left defs (rows_left c.args.left.items) (opens_now defs c.args.left.items actors _ queues opened begun lasts _ _ _ many ready.opens made.bosses.openings numbered c.requires.once played settles rows_count few_entered opens_count))
     (c.close_queues.ensures.stay defs (rows_left c.args.left.items) (opens_now defs c.args.left.items actors _ queues opened begun lasts _ _ _ many ready.opens made.bosses.openings numbered c.requires.once played settles rows_count few_entered opens_count))
     c.close_queues.ensures.rows

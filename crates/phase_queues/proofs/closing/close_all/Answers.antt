@@ -6,7 +6,7 @@ use Rattle.phase_queues.proofs.Leaves.{Leaving, is_last, leaves_one, leaving_beg
 use Rattle.phase_queues.proofs.closing.close_all.Goals as goal
 
 pub queues-init : goal.queues-init
-queues-init c =
+queues-init g c =
     let same = c.requires.bosses in
     let a = c.args.queues.ok in
     let b = c.args.bosses.ok in
@@ -19,20 +19,23 @@ queues-init c =
     }
 
 pub close-requires-clause-serves : goal.close-requires-clause-serves
-close-requires-clause-serves c =
-    let l = subst (λ (t : List (AnyQueue Parcel) × List AnyPass). Leaving c.args.queues.items c.args.bosses.items t.0 t.1 c.queues.left.items) (λ i. (c.in-Some.ensures.items i, c.in-Some-pop.ensures.items i)) c.queues.invariant.leaving in
+close-requires-clause-serves g c κs within =
+    let l = subst (λ (t : List (AnyQueue Parcel g.row.R.Denot) × List AnyPass). Leaving c.args.queues.items c.args.bosses.items t.0 t.1 c.queues.left.items) (λ i. (c.in-Some.ensures.items i, c.in-Some-pop.ensures.items i)) c.queues.invariant.leaving in
     serves_last c.args.queues.items c.args.bosses.items c.pop.new.self.items c.pop-in-Some.new.self.items c.in-Some.queue c.in-Some-pop.boss c.queues.left.items l c.requires.serves
 
 pub close-requires-clause-last : goal.close-requires-clause-last
-close-requires-clause-last c =
-    let l = subst (λ (t : List (AnyQueue Parcel) × List AnyPass). Leaving c.args.queues.items c.args.bosses.items t.0 t.1 c.queues.left.items) (λ i. (c.in-Some.ensures.items i, c.in-Some-pop.ensures.items i)) c.queues.invariant.leaving in
+close-requires-clause-last g c κs within =
+    let l = subst (λ (t : List (AnyQueue Parcel g.row.R.Denot) × List AnyPass). Leaving c.args.queues.items c.args.bosses.items t.0 t.1 c.queues.left.items) (λ i. (c.in-Some.ensures.items i, c.in-Some-pop.ensures.items i)) c.queues.invariant.leaving in
     is_last c.args.queues.items c.args.bosses.items c.pop.new.self.items c.pop-in-Some.new.self.items c.in-Some.queue c.in-Some-pop.boss c.queues.left.items l c.requires.last
 
 pub queues-preserved : goal.queues-preserved
-queues-preserved c =
-    let l = subst (λ (t : List (AnyQueue Parcel) × List AnyPass). Leaving c.args.queues.items c.args.bosses.items t.0 t.1 c.queues.left.items) (λ i. (c.in-Some.ensures.items i, c.in-Some-pop.ensures.items i)) c.queues.invariant.leaving in
+queues-preserved g c =
+    let l = subst (λ (t : List (AnyQueue Parcel g.row.R.Denot) × List AnyPass). Leaving c.args.queues.items c.args.bosses.items t.0 t.1 c.queues.left.items) (λ i. (c.in-Some.ensures.items i, c.in-Some-pop.ensures.items i)) c.queues.invariant.leaving in
     let more = leaves_one c.args.queues.items c.args.bosses.items c.pop.new.self.items c.pop-in-Some.new.self.items c.in-Some.queue c.in-Some-pop.boss c.queues.left.items l c.close.result
-    (record { closed = c.close.ensures.closed; keys = c.close.ensures.keys }) in
+    (record {
+      closed = c.close.ensures.closed;
+      keys = c.close.ensures.keys;
+    }) in
     let room = c.queues.invariant.room in
     let long = c.push_reserved.ensures.len in
     let wide = c.push_reserved.ensures.capacity in

@@ -5,7 +5,7 @@ use Rattle.phase_queues.proofs.Leaves.{all_rows, all_sound, all_stay, all_told, 
 use Rattle.phase_queues.proofs.closing.close_queues.Goals as goal
 
 pub tell_all-requires-clause-rests : goal.tell_all-requires-clause-rests
-tell_all-requires-clause-rests c =
+tell_all-requires-clause-rests g c =
     let many = (as_many c.args.queues.items c.args.bosses.items c.close_all.new.left.items c.close_all.ensures).1 in
     let rests = c.requires.rests in
     let a = c.args.queues.ok in
@@ -13,7 +13,7 @@ tell_all-requires-clause-rests c =
     omega (arith, many, rests, a, same)
 
 pub tell_all-requires-clause-room : goal.tell_all-requires-clause-room
-tell_all-requires-clause-room c =
+tell_all-requires-clause-room g c =
     let many = c.requires.bosses in
     let a = c.args.queues.ok in
     let b = c.args.bosses.ok in
@@ -22,7 +22,7 @@ tell_all-requires-clause-room c =
     (rests_fit c.args.queues.items c.args.bosses.items c.close_all.new.left.items c.close_all.ensures sound c.args.rests.now.items c.requires.serves c.requires.none c.requires.entries)
 
 pub returns-clause-told : goal.returns-clause-told
-returns-clause-told c = λ defs names.
+returns-clause-told g c = λ defs names.
     let many = c.requires.bosses in
     let a = c.args.queues.ok in
     let b = c.args.bosses.ok in
@@ -36,31 +36,31 @@ returns-clause-told c = λ defs names.
     (omega (arith, rests, a, r)) (omega (arith, kept, r, n)) names c.requires.none told
 
 pub returns-clause-left : goal.returns-clause-left
-returns-clause-left c =
+returns-clause-left g c = λ defs rows opens.
     let many = c.requires.bosses in
     let a = c.args.queues.ok in
     let b = c.args.bosses.ok in
     let sound = all_sound c.args.queues.items c.args.bosses.items (omega (arith, many, a, b)) c.requires.serves c.requires.last in
-    all_rows c.args.queues.items c.args.bosses.items c.close_all.new.left.items c.close_all.ensures sound
+    all_rows c.args.queues.items c.args.bosses.items c.close_all.new.left.items c.leave_out_all.new.left.items defs rows c.close_all.ensures sound c.leave_out_all.ensures opens
 
 pub returns-clause-stay : goal.returns-clause-stay
-returns-clause-stay c = λ defs rows opens.
+returns-clause-stay g c = λ defs rows opens.
     let many = c.requires.bosses in
     let a = c.args.queues.ok in
     let b = c.args.bosses.ok in
     let sound = all_sound c.args.queues.items c.args.bosses.items (omega (arith, many, a, b)) c.requires.serves c.requires.last in
-    all_stay c.args.queues.items c.args.bosses.items c.close_all.new.left.items defs rows c.close_all.ensures sound opens
+    all_stay c.args.queues.items c.args.bosses.items c.close_all.new.left.items c.leave_out_all.new.left.items defs rows c.close_all.ensures sound c.leave_out_all.ensures opens
 
 pub returns-clause-rows : goal.returns-clause-rows
-returns-clause-rows c =
+returns-clause-rows g c =
     let many = c.requires.bosses in
     let a = c.args.queues.ok in
     let b = c.args.bosses.ok in
     let sound = all_sound c.args.queues.items c.args.bosses.items (omega (arith, many, a, b)) c.requires.serves c.requires.last in
-    of_rows c.args.queues.items c.args.bosses.items c.close_all.new.left.items c.close_all.ensures sound
+    of_rows c.args.queues.items c.args.bosses.items c.close_all.new.left.items c.close_all.ensures sound c.leave_out_all.new.left.items c.leave_out_all.ensures
 
 pub returns-clause-callers : goal.returns-clause-callers
-returns-clause-callers c =
+returns-clause-callers g c =
     let many = c.requires.bosses in
     let a = c.args.queues.ok in
     let b = c.args.bosses.ok in

@@ -5,17 +5,15 @@ use Rattle.std.proofs.lemmas.List.{length-map}
 use Rattle.acts_core.specs.declared.cargoes.RestEntry.{RestEntry}
 use Rattle.txn_core.specs.declared.parcels.Parcel.{Parcel}
 use Rattle.defs_read.specs.Defined.{Defined, defined, queues_in}
-use Rattle.any_queue.specs.Parting.{IsOfLists}
 use Rattle.any_queue.specs.declared.kinds.AnyPass.{AnyPass}
 use Rattle.any_queue.specs.declared.kinds.AnyQueue.{AnyQueue}
-use Rattle.std.specs.List.{AllByRecursion}
-use Rattle.phase_queues.specs.Left.{Remains, MayStay, items_of, many_left}
+use Rattle.phase_queues.specs.Left.{Remains, MayGoOn, items_of, many_left}
 use Rattle.phase_queues.specs.Opened.{IsOpened, OpenedSoFar}
-use Rattle.phase_queues.proofs.Starting.{all_get, as_many_left, defined_at, few_consumers, one_more_opened, stay_at, turn_here, turn_low}
+use Rattle.phase_queues.proofs.Starting.{as_many_left, defined_at, few_consumers, few_priorities, one_more_opened, stay_at, turn_here, turn_low}
 use Rattle.phase_queues.proofs.opening.open_all.Goals as goal
 
 pub index-requires : goal.index-requires
-index-requires c =
+index-requires g c =
     let i = c.loop-entries.invariant in
     let is = c.len-at.ensures in
     let ok = c.loop-entries.queues.ok in
@@ -29,7 +27,7 @@ index-requires c =
     omega (arith, low, defs, also)
 
 pub bounds-puts-at : goal.bounds-puts-at
-bounds-puts-at c =
+bounds-puts-at g c =
     let i = c.loop-entries.invariant in
     let is = c.len-at.ensures in
     let ok = c.loop-entries.queues.ok in
@@ -41,8 +39,8 @@ bounds-puts-at c =
     let puts = c.requires.puts in
     omega (arith, low, puts)
 
-pub open_queue-requires-clause-kind : goal.open_queue-requires-clause-kind
-open_queue-requires-clause-kind c =
+pub open_queue-requires-clause-lists : goal.open_queue-requires-clause-lists
+open_queue-requires-clause-lists g c =
     let i = c.loop-entries.invariant in
     let is = c.len-at.ensures in
     let ok = c.loop-entries.queues.ok in
@@ -53,10 +51,10 @@ open_queue-requires-clause-kind c =
     let low = turn_low (queues_in c.args.defs.now) c.args.left.items c.loop-entries.yielded (into_iter_items c.next.new.self) c.in-Some.entries c.len-at.result many all at in
     let defs = length-map c.args.defs.now.queues.items defined in
     let def = defined_at c.args.defs.now.queues.items c.len-at.result c.index.result.now (omega (arith, low, defs)) c.index.ensures in
-    all_get (λ (d : Defined). IsOfLists d.kind) (queues_in c.args.defs.now) c.len-at.result (defined c.index.result.now) c.requires.lists def
+    few_priorities (queues_in c.args.defs.now) c.len-at.result (defined c.index.result.now) c.requires.allowed def
 
 pub open_queue-requires-clause-consumers : goal.open_queue-requires-clause-consumers
-open_queue-requires-clause-consumers c =
+open_queue-requires-clause-consumers g c =
     let i = c.loop-entries.invariant in
     let is = c.len-at.ensures in
     let ok = c.loop-entries.queues.ok in
@@ -72,7 +70,7 @@ open_queue-requires-clause-consumers c =
     omega (arith, few, consumers)
 
 pub open_queue-requires-clause-stay : goal.open_queue-requires-clause-stay
-open_queue-requires-clause-stay c =
+open_queue-requires-clause-stay g c =
     let i = c.loop-entries.invariant in
     let is = c.len-at.ensures in
     let ok = c.loop-entries.queues.ok in
@@ -84,10 +82,10 @@ open_queue-requires-clause-stay c =
     let defs = length-map c.args.defs.now.queues.items defined in
     let def = defined_at c.args.defs.now.queues.items c.len-at.result c.index.result.now (omega (arith, low, defs)) c.index.ensures in
     let here = turn_here c.args.left.items c.loop-entries.yielded (into_iter_items c.next.new.self) c.in-Some.entries c.len-at.result all at in
-    subst (AllByRecursion (MayStay (defined c.index.result.now))) (ap items_of here) (stay_at (queues_in c.args.defs.now) c.args.left.items c.len-at.result (defined c.index.result.now) c.requires.stay def)
+    subst (MayGoOn (defined c.index.result.now)) (ap items_of here) (stay_at (queues_in c.args.defs.now) c.args.left.items c.len-at.result (defined c.index.result.now) c.requires.stay def)
 
 pub open_queue-requires-clause-room : goal.open_queue-requires-clause-room
-open_queue-requires-clause-room c =
+open_queue-requires-clause-room g c =
     let i = c.loop-entries.invariant in
     let is = c.len-at.ensures in
     let ok = c.loop-entries.queues.ok in
@@ -102,7 +100,7 @@ open_queue-requires-clause-room c =
     omega (arith, room, same)
 
 pub push_reserved-requires : goal.push_reserved-requires
-push_reserved-requires c =
+push_reserved-requires g c =
     let i = c.loop-entries.invariant in
     let is = c.len-at.ensures in
     let ok = c.loop-entries.queues.ok in
@@ -115,7 +113,7 @@ push_reserved-requires c =
     omega (arith, low, is, room)
 
 pub push_reserved-requires-in-loop-entries : goal.push_reserved-requires-in-loop-entries
-push_reserved-requires-in-loop-entries c =
+push_reserved-requires-in-loop-entries g c =
     let i = c.loop-entries.invariant in
     let is = c.len-at.ensures in
     let ok = c.loop-entries.queues.ok in
@@ -130,7 +128,7 @@ push_reserved-requires-in-loop-entries c =
     omega (arith, low, at, passes, bosses, room)
 
 pub loop-entries-preserved : goal.loop-entries-preserved
-loop-entries-preserved c =
+loop-entries-preserved g c =
     let i = c.loop-entries.invariant in
     let is = c.len-at.ensures in
     let ok = c.loop-entries.queues.ok in
@@ -152,7 +150,7 @@ loop-entries-preserved c =
     record {
       all = append_assoc c.loop-entries.yielded (c.in-Some.entries ∷ []) (into_iter_items c.next.new.self) ∙ ap (λ (l : List Remains). c.loop-entries.yielded ++ l) (sym c.in-Some.ensures.steps.0) ∙ i.all;
       long = let was = i.long in let gone = c.in-Some.ensures.steps.1 in let short = ap length c.in-Some.ensures.steps.0 in omega (arith, was, gone, short);
-      opened = subst (λ (z : ℕ × List Remains × List (AnyQueue Parcel) × List AnyPass). OpenedSoFar z.0 (queues_in c.args.defs.now) z.1 c.args.puts.now z.2 z.3)
+      opened = subst (λ (z : ℕ × List Remains × List (AnyQueue Parcel g.row.R.Denot) × List AnyPass). OpenedSoFar z.0 (queues_in c.args.defs.now) z.1 c.args.puts.now z.2 z.3)
           (λ j. (next j, sym given j, sym c.push_reserved.ensures.items j, sym c.push_reserved-in-loop-entries.ensures.items j)) more;
       room = let room = i.room in let same = c.push_reserved.ensures.capacity in omega (arith, room, same);
       also = let room = i.also in let same = c.push_reserved-in-loop-entries.ensures.capacity in omega (arith, room, same);

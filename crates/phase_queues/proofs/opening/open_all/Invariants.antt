@@ -5,7 +5,7 @@ use Rattle.phase_queues.specs.Opened.{OpenedSoFar}
 use Rattle.phase_queues.proofs.opening.open_all.Given as goal
 
 abbrev pub invariant-loop-entries : goal.invariant-loop-entries
-invariant-loop-entries l = record {
+invariant-loop-entries g l = record {
   all : l.yielded ++ into_iter_items l.entries-iterator ≡ into_iter_items l.initial.entries-iterator;
   long : into_iter_len l.entries-iterator ≡ length (into_iter_items l.entries-iterator);
   opened : OpenedSoFar (length l.yielded) (queues_in l.defs) (into_iter_items l.initial.entries-iterator) l.puts l.queues.items l.bosses.items;

@@ -6,10 +6,10 @@ use Rattle.phase_queues.proofs.Starting.{all_opens, are_opened, as_many_left, ho
 use Rattle.phase_queues.proofs.opening.open_queues.Goals as goal
 
 pub blank_rests-requires-clause-left : goal.blank_rests-requires-clause-left
-blank_rests-requires-clause-left c = ap length c.as_slice.ensures.value ∙ as_many_left (queues_in c.args.defs.now) c.args.left.items c.requires.stay
+blank_rests-requires-clause-left g c = ap length c.as_slice.ensures.value ∙ as_many_left (queues_in c.args.defs.now) c.args.left.items c.requires.stay
 
 pub returns-clause-opened : goal.returns-clause-opened
-returns-clause-opened c =
+returns-clause-opened g c =
     let same = as_many_left (queues_in c.args.defs.now) c.args.left.items c.requires.stay in
     let ok = c.args.left.ok in
     let n : vec_len c.args.left ≡ length c.args.left.items = omega (arith, ok) in
@@ -17,7 +17,7 @@ returns-clause-opened c =
     are_opened (queues_in c.args.defs.now) c.args.left.items c.args.puts.now c.in_ok-queues.queues.items c.in_ok-queues.bosses.items same opened
 
 pub returns-clause-opens : goal.returns-clause-opens
-returns-clause-opens c =
+returns-clause-opens g c =
     let same = as_many_left (queues_in c.args.defs.now) c.args.left.items c.requires.stay in
     let ok = c.args.left.ok in
     let n : vec_len c.args.left ≡ length c.args.left.items = omega (arith, ok) in
@@ -25,7 +25,7 @@ returns-clause-opens c =
     all_opens (queues_in c.args.defs.now) c.args.left.items c.args.puts.now c.in_ok-queues.queues.items c.in_ok-queues.bosses.items same opened
 
 pub returns-clause-room : goal.returns-clause-room
-returns-clause-room c =
+returns-clause-room g c =
     let same = as_many_left (queues_in c.args.defs.now) c.args.left.items c.requires.stay in
     let ok = c.args.left.ok in
     let n : vec_len c.args.left ≡ length c.args.left.items = omega (arith, ok) in

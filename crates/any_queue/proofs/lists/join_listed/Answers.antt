@@ -1,7 +1,7 @@
 use Rattle.entry_table.proofs.Serving.{serves_joined}
 use Rattle.any_queue.proofs.Holding.{joined_true}
 use Rattle.any_queue.proofs.Parting.{is_joined}
-use Rattle.any_queue.proofs.passes.join_listed.Goals as goal
+use Rattle.any_queue.proofs.lists.join_listed.Goals as goal
 
 pub returns-clause-serves : goal.returns-clause-serves
 returns-clause-serves g c =

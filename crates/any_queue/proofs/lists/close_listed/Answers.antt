@@ -1,5 +1,5 @@
 use Rattle.any_queue.proofs.Parting.{all_callers}
-use Rattle.any_queue.proofs.passes.close_listed.Goals as goal
+use Rattle.any_queue.proofs.lists.close_listed.Goals as goal
 
 pub close-requires-clause-every : goal.close-requires-clause-every
 close-requires-clause-every g c = all_callers c.args.boss c.requires.last

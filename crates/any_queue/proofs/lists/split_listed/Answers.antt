@@ -3,7 +3,7 @@ use Rattle.entry_table.proofs.Serving.{serves_split}
 use Rattle.any_queue.proofs.Holding.{all_below, boss_true, made_true}
 use Rattle.any_queue.proofs.Parting.{is_split, parts}
 use Rattle.entry_table.specs.Sights.{sight}
-use Rattle.any_queue.proofs.passes.split_listed.Goals as goal
+use Rattle.any_queue.proofs.lists.split_listed.Goals as goal
 
 pub split-pass-requires-clause-consumers : goal.split-pass-requires-clause-consumers
 split-pass-requires-clause-consumers g c = parts c.args.boss.now.pass c.args.consumers.now c.args.allowance c.requires.may
