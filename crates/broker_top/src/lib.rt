@@ -25,6 +25,8 @@ pub use top::{run_command, select_command};
 #[cfg(test)]
 mod generated_tests;
 #[cfg(test)]
+mod kind_tests;
+#[cfg(test)]
 mod line_tests;
 #[cfg(test)]
 mod phase_tests;

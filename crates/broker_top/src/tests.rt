@@ -130,7 +130,7 @@ const RUNS: &[(&[&str], Status, &str)] = &[
     // What isn't built is told of last.
     (
         &[
-            "\n{\"queues\":[{\"name\":\"q\",\"type\":\"lvq\"}]}\n",
+            "\n{\"queues\":[{\"name\":\"q\",\"overflowPolicy\":\"FLOW_TO_DISK\"}]}\n",
             BARE_7,
         ],
         Status::InputRefused,
@@ -138,7 +138,7 @@ const RUNS: &[(&[&str], Status, &str)] = &[
     ),
     (
         &[
-            "{\"queues\":[{\"name\":\"q\",\"type\":\"lvq\"}]}\n",
+            "{\"queues\":[{\"name\":\"q\",\"overflowPolicy\":\"FLOW_TO_DISK\"}]}\n",
             BARE_7,
             "[]",
         ],
