@@ -40,7 +40,7 @@ pub opened_rows : {R : Type 0} (defs : List Defined) (lefts : Lefts) (puts : Lis
     → all_rows (map build_in queues) ≡ rows_up_to lefts puts (length lefts)
 opened_rows defs lefts puts queues bosses opened many =
     rows_are (rows_at lefts puts) queues (λ q queue at.
-        let within = slice_get_within queues q queue at in
-        let def = there defs q (omega (arith, within, opened.as_many)) in
-        ap (λ (b : Build). b.rows) (opened.builds q def.0 queue def.1 at))
+    let within = slice_get_within queues q queue at in
+    let def = there defs q (omega (arith, within, opened.as_many)) in
+    ap (λ (b : Build). b.rows) (opened.builds q def.0 queue def.1 at))
     ∙ ap (rows_up_to lefts puts) (opened.as_many ∙ sym many)

@@ -129,7 +129,6 @@ module _ (q : Queue) (sound : Sound q) (one : q.lists ≡ 1) where
         place = omega (arith, less, a, b);
       }
 
-
 -- the mark of an entry says whether it is outdated
 pub mark_is : (kind : Kind) (q : Queue) → Sound q → (kind ≡ LastValue → q.lists ≡ 1) → (x : Row) (b : Bool) → IsRow q x → Marks kind q x.number b → b ≡ is_outdated kind q x
 mark_is Listed q sound one x b there marks = marks
