@@ -124,8 +124,8 @@ fn sorted_and_last_value_queues(rt: HostRuntime) -> Result<(), Fail> {
     Ok(())
 }
 
-// Queues of all four kinds, two actors whose lines come in order, and a rest.
-const ALL_KINDS: &[&str] = &[
+// Queues of all four kinds, and two actors whose lines come in order.
+const TWO_ACTORS: &[&str] = &[
     "{\"queues\":[{\"name\":\"s\",\"consumers\":[{\"name\":\"cs\",\"actor\":\"b\"}]},",
     "{\"name\":\"p\",\"type\":\"priority\",\"priorities\":3,\"consumers\":[{\"name\":\"cp\",\"actor\":\"b\"}]},",
     "{\"name\":\"o\",\"type\":\"sorted\",\"sortKey\":\"k\",\"consumers\":[{\"name\":\"co\",\"actor\":\"b\"}]},",
@@ -143,25 +143,65 @@ const ALL_KINDS: &[&str] = &[
     "{\"do\":\"take\",\"actor\":\"b\",\"consumer\":\"cp\"}\n",
     "{\"do\":\"take\",\"actor\":\"b\",\"consumer\":\"co\"}\n",
     "{\"do\":\"release\",\"actor\":\"b\",\"queue\":\"l\",\"id\":6}\n",
-    "{\"do\":\"rest\"}\n",
-    "{\"do\":\"take\",\"actor\":\"b\",\"consumer\":\"co\"}\n",
-    "{\"do\":\"take\",\"actor\":\"b\",\"consumer\":\"cl\"}\n",
-    "{\"do\":\"take\",\"actor\":\"b\",\"consumer\":\"cl\"}\n",
 ];
 
-const ALL_KINDS_TEXT: &str =
+const TWO_ACTORS_TEXT: &str =
     "a 2 ok 1\na 3 ok 2\na 4 ok 3\na 5 ok 4\na 6 ok 5\na 7 ok 6\na 9 ok 7\na 10 ok 8 dropped l#7\n\
      b 8 got 6 1\nb 11 got 1 1\nb 12 got 3 1\nb 13 got 5 1\nb 14 outdated 6\n\
      queue s 1 16\nentry 1 held b\nqueue p 2 32\nentry 3 held b\nentry 2\n\
-     queue o 2 48\nentry 5 held b\nentry 4\nqueue l 1 24\nentry 8\n\
-     b 16 got 5 2\nb 17 got 8 1\nb 18 empty\nqueue s 1 16\nentry 1\nqueue p 2 32\nentry 3\nentry 2\n\
-     queue o 2 48\nentry 5 held b\nentry 4\nqueue l 1 24\nentry 8 held b\n";
+     queue o 2 48\nentry 5 held b\nentry 4\nqueue l 1 24\nentry 8\n";
 
 #[test]
 fn all_kinds_and_two_actors(rt: HostRuntime) -> Result<(), Fail> {
     let gate = LineGate::make(2, TURNS);
     let targets = targets(rt.alloc(), None)?;
-    check(&rt, &gate, ALL_KINDS, targets, ALL_KINDS_TEXT, CONSUMERS)?;
+    check(&rt, &gate, TWO_ACTORS, targets, TWO_ACTORS_TEXT, CONSUMERS)?;
     assert!(rt; !gate.late());
     Ok(())
+}
+
+// The same lines by one actor, and a rest.
+const ONE_ACTOR: &[&str] = &[
+    "{\"queues\":[{\"name\":\"s\",\"consumers\":[{\"name\":\"cs\",\"actor\":\"a\"}]},",
+    "{\"name\":\"p\",\"type\":\"priority\",\"priorities\":3,\"consumers\":[{\"name\":\"cp\",\"actor\":\"a\"}]},",
+    "{\"name\":\"o\",\"type\":\"sorted\",\"sortKey\":\"k\",\"consumers\":[{\"name\":\"co\",\"actor\":\"a\"}]},",
+    "{\"name\":\"l\",\"type\":\"lvq\",\"lvqKey\":\"k\",\"consumers\":[{\"name\":\"cl\",\"actor\":\"a\"}]}]}\n",
+    "{\"do\":\"put\",\"actor\":\"a\",\"queue\":\"s\",\"id\":1}\n",
+    "{\"do\":\"put\",\"actor\":\"a\",\"queue\":\"p\",\"id\":2,\"priority\":0}\n",
+    "{\"do\":\"put\",\"actor\":\"a\",\"queue\":\"p\",\"id\":3,\"priority\":9}\n",
+    "{\"do\":\"put\",\"actor\":\"a\",\"queue\":\"o\",\"id\":4,\"headers\":{\"k\":\"z\"}}\n",
+    "{\"do\":\"put\",\"actor\":\"a\",\"queue\":\"o\",\"id\":5,\"headers\":{\"k\":\"y\"}}\n",
+    "{\"do\":\"put\",\"actor\":\"a\",\"queue\":\"l\",\"id\":6,\"headers\":{\"k\":\"z\"}}\n",
+    "{\"do\":\"take\",\"actor\":\"a\",\"consumer\":\"cl\"}\n",
+    "{\"do\":\"put\",\"actor\":\"a\",\"queue\":\"l\",\"id\":7,\"headers\":{\"k\":\"z\"}}\n",
+    "{\"do\":\"put\",\"actor\":\"a\",\"queue\":\"l\",\"id\":8,\"headers\":{\"k\":\"z\"}}\n",
+    "{\"do\":\"take\",\"actor\":\"a\",\"consumer\":\"cs\"}\n",
+    "{\"do\":\"take\",\"actor\":\"a\",\"consumer\":\"cp\"}\n",
+    "{\"do\":\"take\",\"actor\":\"a\",\"consumer\":\"co\"}\n",
+    "{\"do\":\"release\",\"actor\":\"a\",\"queue\":\"l\",\"id\":6}\n",
+    "{\"do\":\"rest\"}\n",
+    "{\"do\":\"take\",\"actor\":\"a\",\"consumer\":\"co\"}\n",
+    "{\"do\":\"take\",\"actor\":\"a\",\"consumer\":\"cl\"}\n",
+    "{\"do\":\"take\",\"actor\":\"a\",\"consumer\":\"cl\"}\n",
+];
+
+const ONE_ACTOR_TEXT: &str =
+    "a 2 ok 1\na 3 ok 2\na 4 ok 3\na 5 ok 4\na 6 ok 5\na 7 ok 6\na 8 got 6 1\na 9 ok 7\na 10 ok 8 dropped l#7\n\
+     a 11 got 1 1\na 12 got 3 1\na 13 got 5 1\na 14 outdated 6\n\
+     queue s 1 16\nentry 1 held a\nqueue p 2 32\nentry 3 held a\nentry 2\n\
+     queue o 2 48\nentry 5 held a\nentry 4\nqueue l 1 24\nentry 8\n\
+     a 16 got 5 2\na 17 got 8 1\na 18 empty\nqueue s 1 16\nentry 1\nqueue p 2 32\nentry 3\nentry 2\n\
+     queue o 2 48\nentry 5 held a\nentry 4\nqueue l 1 24\nentry 8 held a\n";
+
+#[test]
+fn all_kinds_over_a_rest(rt: HostRuntime) -> Result<(), Fail> {
+    let targets = targets(rt.alloc(), None)?;
+    check(
+        &rt,
+        &FreeGate,
+        ONE_ACTOR,
+        targets,
+        ONE_ACTOR_TEXT,
+        CONSUMERS,
+    )
 }

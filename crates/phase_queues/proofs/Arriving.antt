@@ -17,7 +17,7 @@ use Rattle.queue_model.proofs.KeyedLemmas.{all-filter, all-find, all-weaker, fin
 use Rattle.queue_model.proofs.Orders.{key_cases, precedes_trans}
 use Rattle.acts_core.specs.Moments.{IsRow}
 use Rattle.acts_core.specs.Rest.{InOrder, IsLive}
-use Rattle.acts_core.specs.Sight.{Kind, Listed, Sorted, LastValue, order_of}
+use Rattle.acts_core.specs.Sight.{Kind, Sorted, LastValue, order_of}
 use Rattle.entry_table.proofs.Closing.{all_found}
 use Rattle.account_core.specs.Carry.{by_key, entries_of, is_before, stays, with_row}
 use Rattle.account_core.proofs.EntryCounts.{all_keyed, all_with, staying}

@@ -7,13 +7,11 @@ use Rattle.queue_model.specs.declared.rows.Row.{Row}
 use Rattle.queue_model.specs.History.{Legal, own}
 use Rattle.queue_model.specs.Sound.{Sound}
 use Rattle.queue_model.proofs.SoundSteps.{sound_after, sound_opening}
-use Rattle.acts_core.specs.Asked.{IsSightOf, KeyFits}
-use Rattle.acts_core.specs.Rest.{AreRests, left_of}
-use Rattle.acts_core.specs.Sight.{Kind, known}
+use Rattle.acts_core.specs.Asked.{IsSightOf}
+use Rattle.acts_core.specs.Sight.{known}
 use Rattle.acts_core.specs.declared.cargoes.RestEntry.{RestEntry}
 use Rattle.acts_core.proofs.Running.{lists_stay}
 use Rattle.txn_core.specs.declared.parcels.Parcel.{Parcel}
-use Rattle.txn_core.specs.Parcels.{load_of}
 use Rattle.defs_read.specs.Defined.{Defined}
 use Rattle.report_core.specs.declared.answers.Resting.{Resting}
 use Rattle.any_queue.specs.declared.kinds.AnyPass.{AnyPass}
@@ -31,7 +29,6 @@ use Rattle.phase_queues.specs.Opened.{AllServed, RestsHold, TellNothing, all_pla
 use Rattle.phase_queues.specs.Closed.{AllLasting, AllLeave, AreLast, AreOfRows, LastingBelow, Leaves, NoOthers, RestsFit, TellsMore, ToldBelow}
 use Rattle.phase_queues.proofs.Leaving.{few_lasting, few_lasting_ids, few_left, may_stay, one_list, rows_left-is, told-is}
 use Rattle.phase_queues.proofs.Places.{get_low, get_mid, get_set, set_past}
-use Rattle.phase_queues.proofs.Starting.{all_get}
 
 -- One queue
 

@@ -1,7 +1,6 @@
 -- which entries of a last-value queue are outdated
-use Rattle.std.proofs.Common.{◌≡◌, ◌≢◌, ℕ, zero, suc, ◌<◌, nat_lt, ◌&&◌, ◌||◌, Bool, true, false, cond, not, IsTrue, filter, find, get_or, Option, Some, None, List, [], ◌∷◌, length, map, refl, sym, ap, ap₂, ◌∙◌, subst, ⊎_elim, arith, eq-eqb}
+use Rattle.std.proofs.Common.{◌≡◌, ◌≢◌, ℕ, zero, suc, ◌<◌, nat_lt, ◌&&◌, ◌||◌, Bool, true, false, cond, not, filter, find, get_or, Option, Some, None, List, [], ◌∷◌, length, map, refl, sym, ap, ◌∙◌, arith, eq-eqb}
 use Rattle.std.specs.List.{AllByRecursion, list_any, position_or_len}
-use Rattle.std.specs.Str.{bytes_eq}
 use Rattle.std.proofs.lemmas.Bool.{cond-true, cond-false, ltb-true}
 use Rattle.std.proofs.lemmas.Bool.Decides.{Decides-ltb}
 use Rattle.std.proofs.lemmas.Slice.Eq.{bytes_eq-Decides}
@@ -11,7 +10,7 @@ use Rattle.queue_model.specs.declared.rows.Row.{Row}
 use Rattle.queue_model.specs.declared.rows.Slip.{Slip}
 use Rattle.queue_model.specs.Order.{ByArrival, Precedes, arrival}
 use Rattle.queue_model.specs.Sound.{RowFits, Sound}
-use Rattle.queue_model.specs.State.{is_of_list, is_row, list_at, place_at, row_at, rows_of}
+use Rattle.queue_model.specs.State.{is_of_list, is_row, list_at, place_at, rows_of}
 use Rattle.queue_model.proofs.SoundSteps.{list_found, row_fits}
 use Rattle.acts_core.specs.Held.{IsOutdatedIn}
 use Rattle.acts_core.specs.Moments.{IsRow}

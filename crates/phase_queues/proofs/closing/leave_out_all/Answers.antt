@@ -1,4 +1,4 @@
-use Rattle.std.proofs.Common.{◌∙◌, length, refl, arith}
+use Rattle.std.proofs.Common.{length, refl, arith}
 use Rattle.std.proofs.lemmas.Option.{slice_get_read}
 use Rattle.phase_queues.proofs.Leaves.{all_lasting_below, none_lasting, one_more_lasting}
 use Rattle.phase_queues.proofs.closing.leave_out_all.Goals as goal

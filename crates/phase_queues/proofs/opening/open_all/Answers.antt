@@ -4,7 +4,7 @@ use Rattle.std.specs.Vec.Iter.{into_iter_items}
 use Rattle.std.proofs.lemmas.List.{length-map}
 use Rattle.acts_core.specs.declared.cargoes.RestEntry.{RestEntry}
 use Rattle.txn_core.specs.declared.parcels.Parcel.{Parcel}
-use Rattle.defs_read.specs.Defined.{Defined, defined, queues_in}
+use Rattle.defs_read.specs.Defined.{defined, queues_in}
 use Rattle.any_queue.specs.declared.kinds.AnyPass.{AnyPass}
 use Rattle.any_queue.specs.declared.kinds.AnyQueue.{AnyQueue}
 use Rattle.phase_queues.specs.Left.{Remains, MayGoOn, items_of, many_left}
