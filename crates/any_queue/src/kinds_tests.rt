@@ -1,5 +1,5 @@
 //! Queues of all kinds on one thread, and what they leave.
-ghost use Rattle.std.specs.Prelude.{◌≡◌, ◌<◌, None, Some, [], ◌∷◌, IfOk, vec_len};
+ghost use Rattle.std.specs.Prelude.{◌≡◌, ◌+◌, ◌<◌, None, Some, [], ◌∷◌, IfOk, vec_len};
 ghost use mathlib.Core.List.{Mem};
 ghost use Rattle.acts_core.specs.Sight as sights;
 ghost use Rattle.any_queue.specs.Kinds.{build_in, sight_in, ServesAny};

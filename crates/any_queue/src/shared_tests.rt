@@ -210,8 +210,18 @@ pub(crate) fn both_put<R: Threads + Sync, W: Wait + Send + Sync + Drop>(
     let second = first.wrapping_add(PUTS);
     join(
         rt,
-        || put_all(queue, one, first),
-        || put_all(queue, two, second),
+        || -> AnyPass
+            requires { ServesAny queue.now one
+                × (PUTS ≤ (sight_in one).allowance)
+                × ((sight_in one).opening.lists ≡ 1)
+                × ((sight_in one).opening.consumers ≡ 2) }
+        { put_all(queue, one, first) },
+        || -> AnyPass
+            requires { ServesAny queue.now two
+                × (PUTS ≤ (sight_in two).allowance)
+                × ((sight_in two).opening.lists ≡ 1)
+                × ((sight_in two).opening.consumers ≡ 2) }
+        { put_all(queue, two, second) },
     )
 }
 
@@ -229,7 +239,15 @@ fn both_take<R: Threads + Sync, W: Wait + Send + Sync + Drop>(
     ensures one { (sight_in result.0.pass).opening ≡ (sight_in one).opening }
     ensures two { (sight_in result.1.pass).opening ≡ (sight_in two).opening }
 {
-    join(rt, || take_all(queue, one, 0), || take_all(queue, two, 1))
+    join(
+        rt,
+        || -> Taken
+            requires { ServesAny queue.now one × Mem 0 (sight_in one).consumers }
+        { take_all(queue, one, 0) },
+        || -> Taken
+            requires { ServesAny queue.now two × Mem 1 (sight_in two).consumers }
+        { take_all(queue, two, 1) },
+    )
 }
 
 /// The pass of a thread that puts.

@@ -3,6 +3,7 @@ ghost use Rattle.std.specs.Prelude.{◌≡◌, ◌≤◌, vec_len};
 ghost use Rattle.defs_read.specs.Allowed.{HasPriorities};
 ghost use Rattle.defs_read.specs.Slips.{lists_of};
 ghost use Rattle.any_queue.specs.Kinds.{sight_in, ServesAny};
+ghost use Rattle.std.specs.Thread.{IsSync};
 
 use crate::shared_tests::{
     PUTS, both_put, hold_and_leave, lock_again, of_kind, oldest_out, put_all, put_one, putter,
@@ -139,7 +140,21 @@ fn both_work<R: Threads + Sync, W: Wait + Send + Sync + Drop>(
     ensures two { (sight_in result.1.pass).opening ≡ (sight_in two).opening }
 {
     let second = first.wrapping_add(PUTS);
-    join(rt, || work(queue, one, first), || work(queue, two, second))
+    join(
+        rt,
+        || -> Worked
+            requires { ServesAny queue.now one
+                × (PUTS ≤ (sight_in one).allowance)
+                × ((sight_in one).opening.lists ≡ 1)
+                × ((sight_in one).opening.consumers ≡ 2) }
+        { work(queue, one, first) },
+        || -> Worked
+            requires { ServesAny queue.now two
+                × (PUTS ≤ (sight_in two).allowance)
+                × ((sight_in two).opening.lists ≡ 1)
+                × ((sight_in two).opening.consumers ≡ 2) }
+        { work(queue, two, second) },
+    )
 }
 
 /// Takes all that is left out.
@@ -185,8 +200,22 @@ fn four_work<R: Threads + Wait + Clone + Send + Sync + Drop>(
     let shared = &queue;
     let ((one, two), (three, four)) = join(
         rt,
-        || both_work(rt, shared, one, two, 0),
-        || both_work(rt, shared, three, four, 32),
+        || -> (Worked, Worked)
+            requires { IsSync R.row
+                × (ServesAny shared.now one × ServesAny shared.now two)
+                × ((PUTS ≤ (sight_in one).allowance) × (PUTS ≤ (sight_in two).allowance))
+                × (((sight_in one).opening.lists ≡ 1) × ((sight_in two).opening.lists ≡ 1))
+                × (((sight_in one).opening.consumers ≡ 2)
+                × ((sight_in two).opening.consumers ≡ 2)) }
+        { both_work(rt, shared, one, two, 0) },
+        || -> (Worked, Worked)
+            requires { IsSync R.row
+                × (ServesAny shared.now three × ServesAny shared.now four)
+                × ((PUTS ≤ (sight_in three).allowance) × (PUTS ≤ (sight_in four).allowance))
+                × (((sight_in three).opening.lists ≡ 1) × ((sight_in four).opening.lists ≡ 1))
+                × (((sight_in three).opening.consumers ≡ 2)
+                × ((sight_in four).opening.consumers ≡ 2)) }
+        { both_work(rt, shared, three, four, 32) },
     );
     let worked = sum(sum(one.tally, two.tally), sum(three.tally, four.tally));
     queue.join(&mut boss, one.pass);
