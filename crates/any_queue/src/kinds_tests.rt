@@ -1,21 +1,13 @@
 //! Queues of all kinds on one thread, and what they leave.
-ghost use Rattle.std.specs.Prelude.{◌≡◌, ◌+◌, ◌<◌, None, Some, [], ◌∷◌, IfOk, vec_len};
-ghost use mathlib.Core.List.{Mem};
-ghost use Rattle.acts_core.specs.Sight as sights;
-ghost use Rattle.any_queue.specs.Kinds.{build_in, sight_in, ServesAny};
-ghost use Rattle.any_queue.specs.Parting.{IsFresh};
-ghost use Rattle.defs_read.specs.declared.defs.QueueKind.TheVariants as kinds;
+ghost use Rattle.std.specs.Prelude.{◌≡◌, IfOk, vec_len};
 
-use crate::shared_tests::take_one;
+use crate::AnyQueue;
 use crate::tests::Empty;
-use crate::{AnyPass, AnyQueue};
-use acts_core::clients::put_in;
-use acts_core::{Placed, RestEntry, SharedQueue};
+use acts_core::RestEntry;
 use byte_lists::Bytes;
 use defs_read::{ConsumerDef, QueueDef, QueueKind};
 use queue_model::Slip;
 use std::alloc::{AllocError, Global};
-use std::sync::Wait;
 use std::test::Fail;
 
 /// A definition of a queue that goes by a header, by key or by the last value of each, with one consumer.
@@ -95,50 +87,5 @@ fn a_sorted_queue_leaves_by_key(rt: HostRuntime) -> Result<(), Fail> {
     ]?;
     let (queue, boss) = AnyQueue::make(rt, alloc, &def, 6, start)?;
     assert!(rt; are_left(&queue.close(boss), &[3, 1, 4, 2]));
-    Ok(())
-}
-
-/// Puts an entry of this key; answers the id of what it displaced.
-fn displaced<W: Wait + Send + Sync + Drop>(
-    queue: &AnyQueue<Empty, W>,
-    pass: &mut AnyPass,
-    id: u64,
-    key: Option<Bytes>,
-) -> Option<u64>
-    requires serves { ServesAny queue.now pass.old }
-    requires kind { (build_in queue.now).kind ≡ sights.LastValue }
-    requires allowed { 0 < (sight_in pass.old).allowance }
-    requires lists { (sight_in pass.old).opening.lists ≡ 1 }
-    requires consumers { (sight_in pass.old).opening.consumers ≡ 1 }
-    ensures serves { ServesAny queue.now pass.new }
-    ensures opening { (sight_in pass.new).opening ≡ (sight_in pass.old).opening }
-    ensures consumers { (sight_in pass.new).consumers ≡ (sight_in pass.old).consumers }
-    ensures allowed { (sight_in pass.old).allowance ≡ (sight_in pass.new).allowance + 1 }
-{
-    let (slip, cargo) = entry(0, id, key);
-    match put_in(queue, pass, slip, cargo) {
-        Placed::At {
-            displaced: Some((_, cargo)),
-            ..
-        } => Some(cargo.id),
-        Placed::At { .. } | Placed::Spent(_) => None,
-    }
-}
-
-/// A later entry displaces the one of its key, and the others come by arrival.
-#[test]
-fn a_last_value_queue_has_the_last_of_each_key(rt: HostRuntime) -> Result<(), Fail> {
-    let alloc = rt.alloc();
-    let name = Bytes::from_vec(Vec::new(alloc));
-    let def = definition(alloc, QueueKind::LastValue(name))?;
-    let (queue, mut boss) = AnyQueue::make(rt, alloc, &def, 4, Vec::new(alloc))?;
-    assert_eq!(rt; displaced(&queue, &mut boss, 1, key(alloc, 98)?), None);
-    assert_eq!(rt; displaced(&queue, &mut boss, 2, key(alloc, 97)?), None);
-    assert_eq!(rt; displaced(&queue, &mut boss, 3, key(alloc, 98)?), Some(1));
-    assert_eq!(rt; displaced(&queue, &mut boss, 4, None), None);
-    assert_eq!(rt; take_one(&queue, &mut boss, 0), Some(2));
-    assert_eq!(rt; take_one(&queue, &mut boss, 0), Some(3));
-    assert_eq!(rt; take_one(&queue, &mut boss, 0), Some(4));
-    assert_eq!(rt; take_one(&queue, &mut boss, 0), None);
     Ok(())
 }
