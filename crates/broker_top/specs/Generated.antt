@@ -25,9 +25,11 @@ script_of number count = record { defs = queue ∷ []; phases = phases number co
 -- Phases
 
 -- The phase ran, this is its account, and its answers were counted too; or memory ran out before it began.
-abbrev pub TalliesOne : Result (Vec (Vec (RestEntry Parcel) Global) Global) NoMemory → List Defined → Lefts → Actors → Seats → Seats → Tally → Tally → Type 0
+abbrev pub TalliesOne : Result (Vec (Vec (RestEntry Parcel) Global) Global) NoMemory
+    → List Defined → Lefts → Actors → Seats → Seats → Tally → Tally → Type 0
 TalliesOne (Ok left) defs lefts actors seats seats' t t' =
-    (account : Account) × Leaves defs lefts actors seats seats' account left.items × (t' ≡ plus t (counted (answers_in account)))
+    (account : Account) × Leaves defs lefts actors seats seats' account left.items
+    × (t' ≡ plus t (counted (answers_in account)))
 TalliesOne (Err short) defs lefts actors seats seats' t t' = SameSeats seats seats'
 
 -- The phases of a script ran, from empty queues on, and these are the counts of their accounts. The targets went from these

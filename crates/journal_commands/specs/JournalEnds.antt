@@ -34,8 +34,10 @@ pub record IsNotEmpty (len : ℕ) (d d' : Medium) : Type 0 where
 abbrev pub InitComes : Status → List ℕ → Medium → Medium → Type 0
 InitComes Done text d d' = (text ≡ codes "created\n") × IsMade d d' × (d'.faults ≡ d.faults)
 InitComes DeviceFault text d d' = (text ≡ codes "fault: disk\n") × (d'.faults ≡ d.faults + 1)
-InitComes JournalRefused text d d' = ((len : ℕ) × IsNotEmpty len d d' × (text ≡ not_empty_text len)) × (d'.faults ≡ d.faults)
-InitComes NoMemory text d d' = ((len : ℕ) × IsNotEmpty len d d' × (text ≡ codes "fault: memory\n")) × (d'.faults ≡ d.faults)
+InitComes JournalRefused text d d' =
+    ((len : ℕ) × IsNotEmpty len d d' × (text ≡ not_empty_text len)) × (d'.faults ≡ d.faults)
+InitComes NoMemory text d d' =
+    ((len : ℕ) × IsNotEmpty len d d' × (text ≡ codes "fault: memory\n")) × (d'.faults ≡ d.faults)
 InitComes InputRefused text d d' = ⊥
 InitComes WordsRefused text d d' = ⊥
 InitComes ReadFault text d d' = ⊥
@@ -76,12 +78,14 @@ pub record RecoverEnds (result : Status) (d d' : Medium) (written written' : Opt
 
 -- want of memory before the disk was touched
 abbrev pub IsShort : Status → Medium → Medium → Option (List ℕ) → Option (List ℕ) → ℕ → ℕ → Type 0
-IsShort result d d' written written' faults faults' = IsSame d d' × Tells result NoMemory (codes "fault: memory\n") written written' faults faults'
+IsShort result d d' written written' faults faults' =
+    IsSame d d' × Tells result NoMemory (codes "fault: memory\n") written written' faults faults'
 
 -- How a call ends, by the task that it was asked for, unless memory ran out while the words were read. Where it was none
 -- the words are refused, and the disk is as it was.
 abbrev pub JournalEnds : Option JournalTask → Status → Medium → Medium → Option (List ℕ) → Option (List ℕ) → ℕ → ℕ → Type 0
-JournalEnds None result d d' written written' faults faults' = IsSame d d' × Tells result WordsRefused (codes "fault: words\n") written written' faults faults'
+JournalEnds None result d d' written written' faults faults' =
+    IsSame d d' × Tells result WordsRefused (codes "fault: words\n") written written' faults faults'
 JournalEnds (Some (init path)) result d d' written written' faults faults' =
     InitEnds result d d' written written' faults faults' ⊎ IsShort result d d' written written' faults faults'
 JournalEnds (Some (recover path)) result d d' written written' faults faults' =
@@ -89,11 +93,17 @@ JournalEnds (Some (recover path)) result d d' written written' faults faults' =
 
 -- this text of a refusal was told, or want of memory
 abbrev pub TellsOrWants : List ℕ → Status → Option (List ℕ) → Option (List ℕ) → ℕ → ℕ → Type 0
-TellsOrWants text result written written' faults faults' = Tells result JournalRefused text written written' faults faults' ⊎ Tells result NoMemory (codes "fault: memory\n") written written' faults faults'
+TellsOrWants text result written written' faults faults' =
+    Tells result JournalRefused text written written' faults faults'
+    ⊎ Tells result NoMemory (codes "fault: memory\n") written written' faults faults'
 
 -- it was told why a journal isn't opened
 abbrev pub TellsOfOpening : OpenFault → Status → Option (List ℕ) → Option (List ℕ) → ℕ → ℕ → Type 0
-TellsOfOpening open_.DeviceFault result written written' faults faults' = Tells result DeviceFault (codes "fault: disk\n") written written' faults faults'
-TellsOfOpening open_.NotJournal result written written' faults faults' = TellsOrWants (journal_text 0) result written written' faults faults'
-TellsOfOpening (open_.Damaged at) result written written' faults faults' = TellsOrWants (journal_text at) result written written' faults faults'
-TellsOfOpening open_.NoMemory result written written' faults faults' = Tells result NoMemory (codes "fault: memory\n") written written' faults faults'
+TellsOfOpening open_.DeviceFault result written written' faults faults' =
+    Tells result DeviceFault (codes "fault: disk\n") written written' faults faults'
+TellsOfOpening open_.NotJournal result written written' faults faults' =
+    TellsOrWants (journal_text 0) result written written' faults faults'
+TellsOfOpening (open_.Damaged at) result written written' faults faults' =
+    TellsOrWants (journal_text at) result written written' faults faults'
+TellsOfOpening open_.NoMemory result written written' faults faults' =
+    Tells result NoMemory (codes "fault: memory\n") written written' faults faults'

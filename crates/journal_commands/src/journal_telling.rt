@@ -37,7 +37,8 @@ fn not_empty_text(alloc: Global, len: u64) -> Result<String, NoMemory>
 
 /// Tells where a journal is damaged, 0 where there is none.
 pub(crate) fn refuse_journal<K: Sink>(alloc: Global, out: &mut K, at: u64) -> Status
-    ensures { TellsOrWants (journal_text at) result (K.written out.old) (K.written out.new) (K.faults out.old) (K.faults out.new) }
+    ensures { TellsOrWants (journal_text at) result
+        (K.written out.old) (K.written out.new) (K.faults out.old) (K.faults out.new) }
 {
     match journal_text(alloc, at) {
         Ok(text) => tell(out, Status::JournalRefused, text.as_bytes()),
@@ -47,7 +48,8 @@ pub(crate) fn refuse_journal<K: Sink>(alloc: Global, out: &mut K, at: u64) -> St
 
 /// Tells how long a disk is that isn't empty.
 pub(crate) fn refuse_disk<K: Sink>(alloc: Global, out: &mut K, len: u64) -> Status
-    ensures { TellsOrWants (not_empty_text len) result (K.written out.old) (K.written out.new) (K.faults out.old) (K.faults out.new) }
+    ensures { TellsOrWants (not_empty_text len) result
+        (K.written out.old) (K.written out.new) (K.faults out.old) (K.faults out.new) }
 {
     match not_empty_text(alloc, len) {
         Ok(text) => tell(out, Status::JournalRefused, text.as_bytes()),
@@ -57,7 +59,8 @@ pub(crate) fn refuse_disk<K: Sink>(alloc: Global, out: &mut K, len: u64) -> Stat
 
 /// Tells why a journal isn't opened.
 pub(crate) fn tell_open_fault<K: Sink>(alloc: Global, out: &mut K, fault: OpenFault) -> Status
-    ensures { TellsOfOpening fault result (K.written out.old) (K.written out.new) (K.faults out.old) (K.faults out.new) }
+    ensures { TellsOfOpening fault result
+        (K.written out.old) (K.written out.new) (K.faults out.old) (K.faults out.new) }
 {
     match fault {
         OpenFault::DeviceFault => tell_device_fault(out),
